@@ -1,0 +1,6 @@
+pub mod CubeLemmas
+pub mod Disjoint
+pub mod Keys
+pub mod Machine
+pub mod Once
+pub mod Variables

@@ -1,0 +1,34 @@
+-- The laws of cubes and of right lists.
+use Rattle.std.specs.Prelude.{◌≡◌, ◌↔◌, ℕ, ◌<◌, Bool, true, List, [], length, slice_index_or, ℤ}
+use Rattle.std.specs.List.{list_any}
+use Rattle.std.specs.Cmp.{IsTotalOrder}
+use Rattle.std.specs.declared.cmp.Ordering.TheVariants.{Equal}
+use Rattle.sat_terms.specs.Assignments.{IsGood, lies_in}
+use Rattle.sat_terms.specs.Cubes.{IsCube, apart}
+use Rattle.sat_terms.specs.CubeOrder.{cube_order}
+use Rattle.sat_terms.specs.RightList.{IsRightList}
+
+-- Two cubes are apart exactly if no projected assignment lies in both.
+abbrev pub ApartIsDisjoint : List ℕ → List ℤ → List ℤ → Type 0
+ApartIsDisjoint p c d = IsCube p c → IsCube p d →
+    (apart c d ≡ true) ↔ ((a : List Bool) → length a ≡ length p → lies_in p a c ≡ true → lies_in p a d ≡ true → ⊥)
+
+-- The order of cubes is a total order, and lists of literals that it calls equal are the same list.
+pub record OrdersCubes : Type 0 where
+  pub total : IsTotalOrder cube_order
+  pub exact : (c d : List ℤ) → cube_order c d ≡ Equal → c ≡ d
+
+-- The projected assignment a lies in the cube at the place k, and in no other cube of the list.
+pub record LiesOnlyAt (p : List ℕ) (a : List Bool) (cubes : List (List ℤ)) (k : ℕ) : Type 0 where
+  pub inside : k < length cubes
+  pub lies : lies_in p a (slice_index_or cubes k []) ≡ true
+  pub only : (j : ℕ) → j < length cubes → lies_in p a (slice_index_or cubes j []) ≡ true → j ≡ k
+
+-- A right list holds each good assignment in exactly one cube.
+abbrev pub HoldsEachOnce : List (List ℤ) → List ℕ → List (List ℤ) → Type 0
+HoldsEachOnce f p cubes = IsRightList f p cubes → (a : List Bool) → length a ≡ length p → IsGood f p a → (k : ℕ) × LiesOnlyAt p a cubes k
+
+-- Right lists of one formula hold the same assignments.
+abbrev pub HoldOneSet : List (List ℤ) → List ℕ → List (List ℤ) → List (List ℤ) → Type 0
+HoldOneSet f p cubes others = IsRightList f p cubes → IsRightList f p others → (a : List Bool) → length a ≡ length p →
+    list_any (lies_in p a) cubes ≡ list_any (lies_in p a) others

@@ -1,0 +1,9 @@
+pub mod Assignments
+pub mod CubeOrder
+pub mod Cubes
+pub mod Laws
+pub mod Literals
+pub mod Refusals
+pub mod RightList
+pub mod Subjects
+pub mod Truth

@@ -1,0 +1,23 @@
+//! The laws that the definitions keep. Each function does nothing; its contract is the law, proved.
+ghost use Rattle.std.specs.Prelude.{ℕ, List, ℤ};
+ghost use Rattle.sat_terms.specs.Laws.{ApartIsDisjoint, OrdersCubes, HoldsEachOnce, HoldOneSet};
+
+/// Two cubes are apart exactly if no projected assignment lies in both.
+pub fn apart_cubes_share_nothing()
+    ensures { (p : List ℕ) (c d : List ℤ) → ApartIsDisjoint p c d }
+{}
+
+/// The order of cubes is total, and its equality is equality of cubes.
+pub fn cubes_are_ordered()
+    ensures { OrdersCubes }
+{}
+
+/// A right list holds each good assignment in exactly one cube.
+pub fn right_lists_hold_each_once()
+    ensures { (f : List (List ℤ)) (p : List ℕ) (cubes : List (List ℤ)) → HoldsEachOnce f p cubes }
+{}
+
+/// Two right lists of one formula and one list of shown variables hold the same assignments.
+pub fn right_lists_hold_one_set()
+    ensures { (f : List (List ℤ)) (p : List ℕ) (cubes others : List (List ℤ)) → HoldOneSet f p cubes others }
+{}
