@@ -1,0 +1,5 @@
+pub mod Appends
+pub mod Consumes
+pub mod FinishedAfter
+pub mod Rose
+mod Moves

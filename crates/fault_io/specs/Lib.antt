@@ -1,0 +1,6 @@
+-- The words for what a source gives, what a sink takes, and how often each failed.
+pub mod Faults
+pub mod Bytes
+pub mod Finish
+pub mod BytesIn
+pub mod BytesOut
