@@ -1,0 +1,12 @@
+pub mod Literals
+pub mod Agree
+pub mod Heart
+pub mod Back
+pub mod Flip
+pub mod Cut
+pub mod Hits
+pub mod Region
+pub mod Found
+pub mod Moves
+pub mod Closed
+pub mod Fits
