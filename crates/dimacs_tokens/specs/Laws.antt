@@ -1,0 +1,58 @@
+-- What holds of lines, tokens and numbers, said without the folds that cut them.
+use Rattle.std.specs.Prelude.{◌≡◌, ℕ, ◌<◌, Bool, true, false, not, ◌&&◌, List, [], ◌∷◌, ◌++◌, length, flat_map, filter, ℤ, nat_abs, Some}
+use Rattle.std.specs.List.{list_all}
+use Rattle.std.specs.Str.{bytes_eq, all_ascii_digits}
+use Rattle.std.specs.Fmt.{signed_decimal}
+use Rattle.dimacs_tokens.specs.Bytes.{is_newline, is_white}
+use Rattle.dimacs_tokens.specs.Cuts.{lines, tokens}
+use Rattle.dimacs_tokens.specs.Numbers.{size_cap, token_value}
+use Rattle.dimacs_tokens.specs.Seen.{seen, is_nil}
+
+-- a line without byte 10
+abbrev pub is_line : List ℕ → Bool
+is_line line = list_all (λ b. not (is_newline b)) line
+
+-- a line and the byte 10 that ends it
+abbrev pub ended : List ℕ → List ℕ
+ended line = line ++ 10 ∷ []
+
+-- the text of these lines
+abbrev pub text_of : List (List ℕ) → List ℕ
+text_of ls = flat_map ended ls
+
+-- the lines of a text that ends its lines are just these
+abbrev pub EndedLinesAreLines : Type 0
+EndedLinesAreLines = (ls : List (List ℕ)) → list_all is_line ls ≡ true → lines (text_of ls) ≡ ls
+
+-- neither white space nor byte 10
+abbrev pub is_plain : ℕ → Bool
+is_plain b = not (is_white b) && not (is_newline b)
+
+-- a token: at least one byte, and neither white space nor byte 10
+abbrev pub is_token : List ℕ → Bool
+is_token t = not (is_nil t) && list_all is_plain t
+
+-- all that is cut out of a text's lines are tokens
+abbrev pub OnlyTokensAreCut : Type 0
+OnlyTokensAreCut =
+    (bs : List ℕ) → list_all (λ line. list_all is_token (tokens line)) (lines bs) ≡ true
+
+-- and a line's tokens together are the line without its white space
+abbrev pub NoByteIsLost : Type 0
+NoByteIsLost =
+    (line : List ℕ) → flat_map (λ t. t) (tokens line) ≡ filter (λ b. not (is_white b)) line
+
+-- the token that writes a number has this value
+abbrev pub WrittenNumbersHaveTheirValue : Type 0
+WrittenNumbersHaveTheirValue =
+    (l : ℤ) → nat_abs l < size_cap → token_value (signed_decimal l) ≡ Some l
+
+-- a zero (48) before digits changes nothing, with a minus (45) before it or without
+abbrev pub LeadingZerosChangeNothing : Type 0
+LeadingZerosChangeNothing =
+    (ds : List ℕ) → is_nil ds ≡ false → all_ascii_digits ds ≡ true → (token_value (48 ∷ ds) ≡ token_value ds) × (token_value (45 ∷ 48 ∷ ds) ≡ token_value (45 ∷ ds))
+
+-- eight bytes tell a token from each shorter word
+abbrev pub WordsAreToldByHead : Type 0
+WordsAreToldByHead =
+    (t word : List ℕ) → length word < 8 → bytes_eq (seen t).head word ≡ bytes_eq t word

@@ -1,0 +1,33 @@
+//! What holds of lines, tokens and numbers, said without the way in which they are cut: each function is the
+//! statement that it ensures, and does nothing.
+ghost use Rattle.dimacs_tokens.specs.Laws.{EndedLinesAreLines, OnlyTokensAreCut, NoByteIsLost, WrittenNumbersHaveTheirValue, LeadingZerosChangeNothing, WordsAreToldByHead};
+
+/// The lines of a text that ends each line by byte 10 are just these lines.
+pub fn ended_lines_are_lines()
+    ensures { EndedLinesAreLines }
+{}
+
+/// A token has at least one byte, no white space and no byte 10.
+pub fn only_tokens_are_cut()
+    ensures { OnlyTokensAreCut }
+{}
+
+/// The tokens of a line hold all its bytes that are no white space, in order.
+pub fn no_byte_is_lost()
+    ensures { NoByteIsLost }
+{}
+
+/// A number that is written in decimal is read back.
+pub fn written_numbers_have_their_value()
+    ensures { WrittenNumbersHaveTheirValue }
+{}
+
+/// A zero before the digits changes nothing.
+pub fn leading_zeros_change_nothing()
+    ensures { LeadingZerosChangeNothing }
+{}
+
+/// The first eight bytes of a token tell it from each word of fewer.
+pub fn words_are_told_by_head()
+    ensures { WordsAreToldByHead }
+{}
