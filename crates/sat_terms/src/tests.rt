@@ -1,5 +1,5 @@
 //! What the contracts do not say: that the calls succeed, and the answers on worked examples.
-use crate::{Clause, Cube, CubeRefused, Items, apart, compare, within};
+use crate::{Clause, Cube, CubeList, CubeRefused, Items, apart, compare, within};
 use std::cmp::Ordering;
 use std::test::Fail;
 
@@ -114,4 +114,16 @@ fn cubes_are_ordered_by_variable_and_then_by_sign(rt: HostRuntime) {
     assert_eq!(rt; compare(&[1], &[1, -2]), Ordering::Less);
     assert_eq!(rt; compare(&[2], &[1, 2]), Ordering::Greater);
     assert_eq!(rt; compare(&[-3, 4], &[-3, 4]), Ordering::Equal);
+}
+
+#[test]
+fn a_list_of_cubes_is_read_place_by_place(rt: HostRuntime) -> Result<(), Fail> {
+    let mut cubes = Vec::new(rt.alloc());
+    cubes.push(Cube::from_vec([-1, 2].to_vec(rt.alloc())?))?;
+    cubes.push(Cube::from_vec([1].to_vec(rt.alloc())?))?;
+    let list = Items::from_vec(cubes);
+    assert_eq!(rt; list.count(), 2);
+    assert_eq!(rt; list.at(0), [-1, 2].as_slice());
+    assert_eq!(rt; list.at(1), [1].as_slice());
+    Ok(())
 }
