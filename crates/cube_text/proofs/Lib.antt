@@ -1,0 +1,3 @@
+pub mod Handing
+mod Telling
+mod Texts

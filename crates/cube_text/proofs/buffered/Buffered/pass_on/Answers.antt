@@ -1,0 +1,9 @@
+use Rattle.std.proofs.Common.{◌++◌, sym, ◌∙◌, ap, List, ℕ}
+use Rattle.cube_text.proofs.Handing.{Wrote-put}
+use Rattle.cube_text.proofs.buffered.Buffered.pass_on.Goals as goal
+
+pub returns-then-not-self : goal.returns-then-not-self
+returns-then-not-self g c start before text wrote =
+    let view = c.self.view_is in
+    Wrote-put _ _ _ _ _ _ _ _ _ _ _ _ (sym (ap (λ v. v.failed) view) ∙ c.if-not-self.true) (sym (ap (λ (l : List ℕ). l ++ c.args.piece.now) c.requires))
+    c.write_whole.ensures.bytes c.write_whole.ensures.cause (ap (λ v. v.kept) view ∙ c.requires) c.is_err-self-inside.ensures.value wrote
