@@ -5,7 +5,12 @@ use Rattle.fault_io.specs.Bytes.{Appends, AppendsPrefix, WritesWhole}
 use Rattle.fault_io.specs.Faults.{HasCause}
 use Rattle.fault_io.proofs.Appends.{Appends-nil, Appends-more, Appends-AppendsPrefix, AppendsPrefix-more}
 use Rattle.fault_io.proofs.Rose.{later-Rose}
-use Rattle.cube_text.specs.Buffered.{BufferedView, WentOut, IsOut, Wrote, HandsIn}
+use Rattle.cube_text.specs.Buffered.{BufferedView, WentOut, IsOut, Wrote}
+
+-- the step of a writer from b, over what the sink held and its count of faults, to c
+abbrev pub Hands : Option (List ℕ) → ℕ → BufferedView → Option (List ℕ) → ℕ → BufferedView → List ℕ → Type 0
+Hands old m b new n c piece =
+    (start : Option (List ℕ)) (before : ℕ) (text : List ℕ) → Wrote start before old m text b → Wrote start before new n (text ++ piece) c
 
 -- a writer that was just made was handed nothing
 pub Wrote-nil : (start : Option (List ℕ)) (before : ℕ) → Wrote start before start before [] (record { kept = []; failed = false })
@@ -25,8 +30,8 @@ IsOut-keep start now text kept piece false out = record {
 IsOut-keep start now text kept piece true out = AppendsPrefix-more start now text piece out
 
 -- a piece that is kept back is handed in
-pub HandsIn-keep : (old : Option (List ℕ)) (m : ℕ) (b c : BufferedView) (piece : List ℕ) → c ≡ record b { kept = b.kept ++ piece } → HandsIn old m b old m c piece
-HandsIn-keep old m b c piece is start before text wrote = subst (λ (v : BufferedView). Wrote start before old m (text ++ piece) v) (sym is) (record {
+pub Hands-keep : (old : Option (List ℕ)) (m : ℕ) (b c : BufferedView) (piece : List ℕ) → c ≡ record b { kept = b.kept ++ piece } → Hands old m b old m c piece
+Hands-keep old m b c piece is start before text wrote = subst (λ (v : BufferedView). Wrote start before old m (text ++ piece) v) (sym is) (record {
   later = wrote.later;
   bytes = IsOut-keep start old text b.kept piece b.failed wrote.bytes;
   cause = wrote.cause;
@@ -59,15 +64,15 @@ Wrote-put start before old m now n text piece all b c (Err e) going all_is put c
     }
 
 -- one piece after another
-pub HandsIn-more : (old : Option (List ℕ)) (m : ℕ) (b : BufferedView) (mid : Option (List ℕ)) (k : ℕ) (c : BufferedView) (new : Option (List ℕ)) (n : ℕ) (d : BufferedView) (xs ys : List ℕ) →
-    HandsIn old m b mid k c xs → HandsIn mid k c new n d ys → HandsIn old m b new n d (xs ++ ys)
-HandsIn-more old m b mid k c new n d xs ys first second start before text wrote =
+pub Hands-more : (old : Option (List ℕ)) (m : ℕ) (b : BufferedView) (mid : Option (List ℕ)) (k : ℕ) (c : BufferedView) (new : Option (List ℕ)) (n : ℕ) (d : BufferedView) (xs ys : List ℕ) →
+    Hands old m b mid k c xs → Hands mid k c new n d ys → Hands old m b new n d (xs ++ ys)
+Hands-more old m b mid k c new n d xs ys first second start before text wrote =
     subst (λ (l : List ℕ). Wrote start before new n l d) (append_assoc text xs ys) (second start before (text ++ xs) (first start before text wrote))
 
 -- a writer that is left as it was, and then a piece
-pub HandsIn-same : (old : Option (List ℕ)) (m : ℕ) (a b : BufferedView) (new : Option (List ℕ)) (n : ℕ) (c : BufferedView) (piece : List ℕ) →
-    a ≡ b → HandsIn old m a new n c piece → HandsIn old m b new n c piece
-HandsIn-same old m a b new n c piece same hands = subst (λ (v : BufferedView). HandsIn old m v new n c piece) same hands
+pub Hands-same : (old : Option (List ℕ)) (m : ℕ) (a b : BufferedView) (new : Option (List ℕ)) (n : ℕ) (c : BufferedView) (piece : List ℕ) →
+    a ≡ b → Hands old m a new n c piece → Hands old m b new n c piece
+Hands-same old m a b new n c piece same hands = subst (λ (v : BufferedView). Hands old m v new n c piece) same hands
 
 -- where nothing is kept back and nothing failed, all is out
 pub Wrote-whole : (start : Option (List ℕ)) (before : ℕ) (now : Option (List ℕ)) (n : ℕ) (text : List ℕ) (b : BufferedView) →
@@ -83,9 +88,9 @@ pub Wrote-front : (start : Option (List ℕ)) (before : ℕ) (now : Option (List
 Wrote-front start before now n text b fell wrote = subst (λ (f : Bool). IsOut start now text b.kept f) fell wrote.bytes
 
 -- the same bytes, written otherwise
-pub HandsIn-along : (old : Option (List ℕ)) (m : ℕ) (b : BufferedView) (new : Option (List ℕ)) (n : ℕ) (c : BufferedView) (xs ys : List ℕ) →
-    xs ≡ ys → HandsIn old m b new n c xs → HandsIn old m b new n c ys
-HandsIn-along old m b new n c xs ys same hands = subst (λ (l : List ℕ). HandsIn old m b new n c l) same hands
+pub Hands-along : (old : Option (List ℕ)) (m : ℕ) (b : BufferedView) (new : Option (List ℕ)) (n : ℕ) (c : BufferedView) (xs ys : List ℕ) →
+    xs ≡ ys → Hands old m b new n c xs → Hands old m b new n c ys
+Hands-along old m b new n c xs ys same hands = subst (λ (l : List ℕ). Hands old m b new n c l) same hands
 
 pub Wrote-along : (start : Option (List ℕ)) (before : ℕ) (now : Option (List ℕ)) (n : ℕ) (xs ys : List ℕ) (b : BufferedView) →
     xs ≡ ys → Wrote start before now n xs b → Wrote start before now n ys b

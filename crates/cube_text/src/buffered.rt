@@ -54,7 +54,7 @@ impl Buffered {
     /// Puts out what is kept back.
     fn flush<K: Sink>(&mut self, out: &mut K)
         ensures empty { self.new.kept ≡ [] }
-        ensures out { HandsIn (K.held out.old) (K.faults out.old) self.old (K.held out.new) (K.faults out.new) self.new [] }
+        ensures out { HandsIn K.held K.faults out.old self.old out.new self.new [] }
     {
         if !self.failed {
             self.failed = write_whole(self.bytes.as_slice(), out).is_err();
@@ -65,7 +65,7 @@ impl Buffered {
     /// Puts out a piece that the buffer has no room for.
     fn pass_on<K: Sink>(&mut self, piece: &[u8], out: &mut K)
         requires { self.old.kept ≡ [] }
-        ensures { HandsIn (K.held out.old) (K.faults out.old) self.old (K.held out.new) (K.faults out.new) self.new piece.now }
+        ensures { HandsIn K.held K.faults out.old self.old out.new self.new piece.now }
     {
         if !self.failed {
             self.failed = write_whole(piece, out).is_err();
@@ -74,7 +74,7 @@ impl Buffered {
 
     /// Takes the piece behind those before it.
     pub fn put<K: Sink>(&mut self, piece: &[u8], out: &mut K)
-        ensures { HandsIn (K.held out.old) (K.faults out.old) self.old (K.held out.new) (K.faults out.new) self.new piece.now }
+        ensures { HandsIn K.held K.faults out.old self.old out.new self.new piece.now }
     {
         if !self.keep(piece) {
             self.flush(out);
@@ -86,7 +86,7 @@ impl Buffered {
 
     /// Puts out what is still kept back, and tells whether all of the pieces are out.
     pub fn close<K: Sink>(mut self, out: &mut K) -> Result<(), WriteFault>
-        ensures { HandsOn (K.held out.old) (K.faults out.old) self (K.held out.new) (K.faults out.new) result }
+        ensures { HandsOn K.held K.faults out.old self out.new result }
     {
         self.flush(out);
         if self.failed {

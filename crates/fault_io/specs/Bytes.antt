@@ -1,5 +1,6 @@
--- What a reader took from a source and a writer put into a sink, where these tell their bytes. `Consumes old new bytes`
--- says that the bytes were taken from the front, `Appends old new bytes` that they were added at the end.
+-- What a reader took from a source and a writer put into a sink, where these tell their bytes.
+-- `Consumes old new bytes`: the bytes were taken from the front. `Appends old new bytes`: they were added
+-- at the end. `Keeps old new`: none moved. `IsAtEnd left`: none is left.
 use Rattle.std.specs.Prelude.{◌≡◌, ℕ, ◌<◌, ◌≤◌, Option, List, ◌++◌, length, Result, MatchResult}
 pub use Rattle.std.specs.Io.KnownBytes.{Consumes, IsAtEnd, Appends, Keeps}
 

@@ -2,7 +2,8 @@
 use Rattle.std.specs.Prelude.{ℕ, List, length, drop, min, Contains}
 use Rattle.fault_io.specs.Faults.{one_more}
 
--- the bytes that are left, the most that one call gives, the numbers of the calls that fail, and how many calls and faults there were
+-- the bytes that are left, the most that one call gives, the numbers of the calls that fail,
+-- and how many calls and faults there were
 pub record BytesInView : Type 0 where
   pub left : List ℕ
   pub step : ℕ

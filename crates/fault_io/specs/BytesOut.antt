@@ -2,8 +2,8 @@
 use Rattle.std.specs.Prelude.{◌≡◌, ℕ, ◌-◌, ◌<◌, Bool, true, false, List, length, take, ◌++◌, min, Contains, ◌==◌, if◌then◌else◌}
 use Rattle.fault_io.specs.Faults.{one_more}
 
--- the bytes that it holds, how many it can hold, the most that one call takes, the numbers of the calls that fail,
--- how many calls and faults there were, and whether it is finished
+-- the bytes that it holds, how many it can hold, the most that one call takes, the numbers of the calls
+-- that fail, how many calls and faults there were, and whether it is finished
 pub record BytesOutView : Type 0 where
   pub bytes : List ℕ
   pub room : ℕ
@@ -27,7 +27,8 @@ put_count v size = min (min v.step size) (v.room - length v.bytes)
 
 -- after a call that took the first n bytes of the piece
 abbrev pub after_put : BytesOutView → List ℕ → ℕ → BytesOutView
-after_put v piece n = record v { bytes = v.bytes ++ take n piece; calls = one_more v.calls; finished = if n == 0 then v.finished else false }
+after_put v piece n =
+    record v { bytes = v.bytes ++ take n piece; calls = one_more v.calls; finished = if n == 0 then v.finished else false }
 
 -- after a call of `finish` that did not fail
 abbrev pub after_finish : BytesOutView → BytesOutView

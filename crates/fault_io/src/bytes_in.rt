@@ -41,7 +41,13 @@ impl BytesIn {
     /// Takes no memory.
     pub fn make(bytes: Vec<u8>, step: usize, fails: Vec<u64>) -> BytesIn
         requires { 0 < step }
-        ensures { result ≡ record { left = bytes.items; step = step; fails = fails.items; calls = 0; faults = 0 } }
+        ensures { result ≡ record {
+          left = bytes.items;
+          step = step;
+          fails = fails.items;
+          calls = 0;
+          faults = 0;
+        } }
     {
         BytesIn {
             bytes,

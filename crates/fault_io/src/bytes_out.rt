@@ -52,7 +52,15 @@ impl BytesOut {
         fails: Vec<u64>,
     ) -> Result<BytesOut, AllocError>
         requires { 0 < step }
-        ensures { IfOk result (λ s. s ≡ record { bytes = []; room = room; step = step; fails = fails.items; calls = 0; faults = 0; finished = false }) }
+        ensures { IfOk result (λ s. s ≡ record {
+          bytes = [];
+          room = room;
+          step = step;
+          fails = fails.items;
+          calls = 0;
+          faults = 0;
+          finished = false;
+        }) }
     {
         Ok(BytesOut {
             bytes: Vec::with_capacity(alloc, room)?,

@@ -14,7 +14,8 @@ pub struct WriteFault;
 pub fn write_whole<K: Sink>(piece: &[u8], out: &mut K) -> Result<(), WriteFault>
     ensures bytes { WritesWhole (K.held out.old) (K.held out.new) piece.now result }
     ensures cause { HasCause (K.faults out.old) (K.faults out.new) result }
-    ensures finished { OnOk result (FinishedAfter (length piece.now) (K.finished out.old) (K.finished out.new)) }
+    ensures finished { OnOk result
+        (FinishedAfter (length piece.now) (K.finished out.old) (K.finished out.new)) }
     ensures never_finishes { K.finished out.new ≡ true → K.finished out.old ≡ true }
 {
     let mut at = 0;

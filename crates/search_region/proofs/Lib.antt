@@ -10,3 +10,4 @@ pub mod Found
 pub mod Moves
 pub mod Closed
 pub mod Fits
+pub mod Least

@@ -4,4 +4,5 @@ use Rattle.cube_text.specs.Lines.{number_word}
 use Rattle.cube_text.proofs.lines.put_line.Given as goal
 
 abbrev pub invariant-loop-number : goal.invariant-loop-number
-invariant-loop-number g l = HandsIn (g.K.Sink.held l.fn.out) (g.K.Sink.faults l.fn.out) l.fn.buffer (g.K.Sink.held l.out) (g.K.Sink.faults l.out) l.buffer (l.front ++ flat_map number_word (take l.number-index l.numbers))
+invariant-loop-number g l =
+    HandsIn g.K.Sink.held g.K.Sink.faults l.fn.out l.fn.buffer l.out l.buffer (l.front ++ flat_map number_word (take l.number-index l.numbers))

@@ -1,0 +1,33 @@
+-- The code of a status, and the line that it puts on the notes.
+use Rattle.std.specs.Prelude.{ℕ, List, [], ◌∷◌, ◌++◌, codes}
+use Rattle.std.specs.Fmt.{decimal}
+use Rattle.dimacs_front.specs.declared.refused.TextRefused.{TextRefused}
+use Rattle.dimacs_front.specs.Refusals.{line_of}
+use Rattle.allsat_run.specs.declared.status.Status.{Status}
+use Rattle.allsat_run.specs.declared.status.Status.TheVariants.{Finished, WordsRefused, InputRefused, OutOfMemory, ReadFault, WriteFault}
+
+-- the exit code
+abbrev pub code_of : Status → ℕ
+code_of Finished = 0
+code_of WordsRefused = 1
+code_of (InputRefused r) = 2
+code_of OutOfMemory = 4
+code_of (ReadFault line) = 5
+code_of WriteFault = 6
+
+-- a number, and the end of the line
+abbrev pub number_line : ℕ → List ℕ
+number_line n = decimal n ++ 10 ∷ []
+
+-- the number, the name and the line of a refusal
+abbrev pub refusal_text : TextRefused → List ℕ
+refusal_text r = codes "20 NotBuilt line " ++ number_line (line_of r)
+
+-- the line on the notes; a finished run puts none
+abbrev pub note_of : Status → List ℕ
+note_of Finished = []
+note_of WordsRefused = codes "allsat: words refused" ++ 10 ∷ []
+note_of (InputRefused r) = codes "allsat: input refused: " ++ refusal_text r
+note_of OutOfMemory = codes "allsat: out of memory" ++ 10 ∷ []
+note_of (ReadFault line) = codes "allsat: read fault line " ++ number_line line
+note_of WriteFault = codes "allsat: write fault" ++ 10 ∷ []

@@ -1,0 +1,15 @@
+//! The whole program as one call: words and bytes in, a listing and a status out.
+#![tactic(auto)]
+
+mod enumerate;
+mod notes;
+mod status;
+mod words;
+
+pub use enumerate::{enumerate_alone, run};
+pub use notes::write_note;
+pub use status::{Ended, Status};
+pub use words::Words;
+
+#[cfg(test)]
+mod tests;

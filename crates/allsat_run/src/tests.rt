@@ -1,0 +1,209 @@
+//! Whole runs over memory: the listings of worked examples byte for byte, and faults in mid-stream.
+use crate::{Ended, Status, Words, run};
+use dimacs_front::TextRefused;
+use fault_io::{BytesIn, BytesOut};
+use std::alloc::{AllocError, Global};
+use std::sync::Wait;
+use std::test::Fail;
+use std::thread::Threads;
+
+/// How a run over memory ended, with the bytes that it wrote.
+#[derive(Drop)]
+struct Ran {
+    ended: Ended,
+    out: BytesOut,
+    notes: BytesOut,
+}
+
+/// The words of the one command.
+fn enumerate(alloc: Global) -> Result<Words, AllocError> {
+    let mut words = Words::make(alloc);
+    words.push("enumerate")?;
+    Ok(words)
+}
+
+/// Runs `enumerate` on a text, with a source and a sink that move four bytes a call and fail at these calls.
+fn run_with_faults<R: Threads + Wait + Sync + AllocGlobal>(
+    rt: &R,
+    text: &[u8],
+    in_fails: &[u64],
+    out_fails: &[u64],
+    room: usize,
+) -> Result<Ran, AllocError> {
+    let alloc = rt.alloc();
+    let words = enumerate(alloc)?;
+    let mut input = BytesIn::make(text.to_vec(alloc)?, 4, in_fails.to_vec(alloc)?);
+    let mut out = BytesOut::make(alloc, room, 4, out_fails.to_vec(alloc)?)?;
+    let mut notes = BytesOut::make(alloc, 200, 7, Vec::new(alloc))?;
+    let ended = run(rt, alloc, &words, &mut input, &mut out, &mut notes);
+    Ok(Ran { ended, out, notes })
+}
+
+/// Runs `enumerate` on a text without faults.
+fn run_on<R: Threads + Wait + Sync + AllocGlobal>(rt: &R, text: &[u8]) -> Result<Ran, AllocError> {
+    run_with_faults(rt, text, &[], &[], 1000)
+}
+
+/// Whether the run finished with just this listing and no note.
+fn lists(ran: &Ran, listing: &[u8]) -> bool {
+    ran.ended.status == Status::Finished
+        && ran.out.bytes() == listing
+        && ran.notes.bytes().is_empty()
+}
+
+#[test]
+fn one_clause_gives_two_cubes(rt: HostRuntime) -> Result<(), Fail> {
+    assert!(rt;
+        lists(
+            &run_on(&rt, b"p cnf 2 1\n1 2 0\n")?,
+            b"v -1 2 0\nv 1 0\ns ALL\n"
+        )
+    );
+    Ok(())
+}
+
+#[test]
+fn a_contradiction_gives_no_cube(rt: HostRuntime) -> Result<(), Fail> {
+    assert!(rt; lists(&run_on(&rt, b"p cnf 1 2\n1 0\n-1 0\n")?, b"s ALL\n"));
+    Ok(())
+}
+
+#[test]
+fn no_variables_and_no_clauses_give_the_empty_cube(rt: HostRuntime) -> Result<(), Fail> {
+    assert!(rt; lists(&run_on(&rt, b"p cnf 0 0\n")?, b"v 0\ns ALL\n"));
+    Ok(())
+}
+
+#[test]
+fn variables_that_do_not_matter_cost_nothing(rt: HostRuntime) -> Result<(), Fail> {
+    assert!(rt; lists(&run_on(&rt, b"p cnf 40 1\n1 0\n")?, b"v 1 0\ns ALL\n"));
+    Ok(())
+}
+
+#[test]
+fn the_empty_clause_gives_no_cube(rt: HostRuntime) -> Result<(), Fail> {
+    assert!(rt; lists(&run_on(&rt, b"p cnf 1 1\n0\n")?, b"s ALL\n"));
+    Ok(())
+}
+
+#[test]
+fn pairs_and_repeated_literals_are_read_as_written(rt: HostRuntime) -> Result<(), Fail> {
+    assert!(rt;
+        lists(
+            &run_on(&rt, b"p cnf 2 2\n1 -1 0\n2 2 0\n")?,
+            b"v 2 0\ns ALL\n"
+        )
+    );
+    Ok(())
+}
+
+#[test]
+fn assignments_two_variables_apart_are_listed_one_by_one(rt: HostRuntime) -> Result<(), Fail> {
+    let text = b"p cnf 3 4\n1 2 3 0\n1 -2 -3 0\n-1 2 -3 0\n-1 -2 3 0\n";
+    assert!(rt;
+        lists(
+            &run_on(&rt, text)?,
+            b"v -1 -2 3 0\nv -1 2 -3 0\nv 1 -2 -3 0\nv 1 2 3 0\ns ALL\n"
+        )
+    );
+    Ok(())
+}
+
+#[test]
+fn a_text_of_another_form_is_refused(rt: HostRuntime) -> Result<(), Fail> {
+    let texts: [&[u8]; 2] = [b"c x\np cnf 0 0\n", b"p cnf 2 1\n1 3 0\n"];
+    for text in texts {
+        let ran = run_on(&rt, text)?;
+        assert_eq!(rt;
+            ran.ended.status,
+            Status::InputRefused(TextRefused::NotBuilt { line: 1 })
+        );
+        assert_eq!(rt; ran.ended.status.code(), 2);
+        assert_eq!(rt; ran.out.bytes().len(), 0);
+        assert_eq!(rt;
+            ran.notes.bytes(),
+            b"allsat: input refused: 20 NotBuilt line 1\n".as_slice()
+        );
+    }
+    Ok(())
+}
+
+#[test]
+fn words_that_are_no_command_are_refused(rt: HostRuntime) -> Result<(), Fail> {
+    let alloc = rt.alloc();
+    let mut other = Words::make(alloc);
+    other.push("list")?;
+    let mut twice = enumerate(alloc)?;
+    twice.push("enumerate")?;
+    for words in [Words::make(alloc), other, twice] {
+        let mut input = BytesIn::make(b"p cnf 0 0\n".to_vec(alloc)?, 4, Vec::new(alloc));
+        let mut out = BytesOut::make(alloc, 100, 4, Vec::new(alloc))?;
+        let mut notes = BytesOut::make(alloc, 100, 4, Vec::new(alloc))?;
+        let ended = run(&rt, alloc, &words, &mut input, &mut out, &mut notes);
+        assert_eq!(rt; ended.status, Status::WordsRefused);
+        assert_eq!(rt; ended.status.code(), 1);
+        assert_eq!(rt; out.bytes().len(), 0);
+        assert_eq!(rt; notes.bytes(), b"allsat: words refused\n".as_slice());
+    }
+    Ok(())
+}
+
+const TEXT: &[u8] = b"p cnf 2 1\n1 2 0\n";
+
+const LISTING: &[u8] = b"v -1 2 0\nv 1 0\ns ALL\n";
+
+#[test]
+fn a_write_that_fails_leaves_the_bytes_accepted_before(rt: HostRuntime) -> Result<(), Fail> {
+    // 21 bytes by four are six calls, and `finish` is the seventh.
+    for call in 1u64..8 {
+        let ran = run_with_faults(&rt, TEXT, &[], &[call], 1000)?;
+        let accepted = LISTING.len().min(4 * (call as usize - 1));
+        assert_eq!(rt; ran.ended.status, Status::WriteFault, "call {call}");
+        assert_eq!(rt; ran.ended.status.code(), 6);
+        assert_eq!(rt; ran.out.bytes(), &LISTING[..accepted]);
+        assert_eq!(rt; ran.notes.bytes(), b"allsat: write fault\n".as_slice());
+    }
+    Ok(())
+}
+
+#[test]
+fn a_full_sink_holds_what_it_had_room_for(rt: HostRuntime) -> Result<(), Fail> {
+    let ran = run_with_faults(&rt, TEXT, &[], &[], 8)?;
+    assert_eq!(rt; ran.ended.status, Status::WriteFault);
+    assert_eq!(rt; ran.out.bytes(), b"v -1 2 0".as_slice());
+    Ok(())
+}
+
+#[test]
+fn a_read_that_fails_writes_nothing(rt: HostRuntime) -> Result<(), Fail> {
+    // Four bytes a call: the first line ends with the third call. The fifth call finds the end.
+    for (call, line) in [(1u64, 1u64), (2, 1), (3, 1), (4, 2), (5, 3)] {
+        let ran = run_with_faults(&rt, TEXT, &[call], &[], 1000)?;
+        assert_eq!(rt; ran.ended.status, Status::ReadFault(line), "call {call}");
+        assert_eq!(rt; ran.ended.status.code(), 5);
+        assert_eq!(rt; ran.out.bytes().len(), 0);
+    }
+    let ran = run_with_faults(&rt, TEXT, &[2], &[], 1000)?;
+    assert_eq!(rt;
+        ran.notes.bytes(),
+        b"allsat: read fault line 1\n".as_slice()
+    );
+    Ok(())
+}
+
+#[test]
+fn notes_that_fail_change_nothing_else(rt: HostRuntime) -> Result<(), Fail> {
+    let alloc = rt.alloc();
+    let words = enumerate(alloc)?;
+    let mut input = BytesIn::make(b"c x\n".to_vec(alloc)?, 4, Vec::new(alloc));
+    let mut out = BytesOut::make(alloc, 100, 4, Vec::new(alloc))?;
+    let mut notes = BytesOut::make(alloc, 100, 4, [1u64].to_vec(alloc)?)?;
+    let ended = run(&rt, alloc, &words, &mut input, &mut out, &mut notes);
+    assert_eq!(rt;
+        ended.status,
+        Status::InputRefused(TextRefused::NotBuilt { line: 1 })
+    );
+    assert_eq!(rt; out.bytes().len(), 0);
+    assert_eq!(rt; notes.bytes().len(), 0);
+    Ok(())
+}

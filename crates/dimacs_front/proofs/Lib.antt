@@ -1,0 +1,5 @@
+pub mod Behind
+pub mod Header
+pub mod Sizes
+pub mod Taking
+pub mod Variables

@@ -1,0 +1,4 @@
+pub mod Entries
+pub mod Pictures
+pub mod Scans
+pub mod Searching

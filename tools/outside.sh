@@ -1,0 +1,72 @@
+#!/bin/sh
+# What the program does at the edges that only a shell can make: words, a directory as standard input, a full
+# device as standard output, closed streams. Run it at the top: tools/outside.sh. It uses ./allsat, which builds
+# the program where it is not built. A case that a machine can't make is skipped with a line that says so.
+set -u
+cd "$(dirname "$0")/.." || exit 1
+work=$(mktemp -d) || exit 1
+trap 'rm -rf "$work"' EXIT
+wrong=0
+
+# expect NAME STATUS NOTES OUT: compares what the last run left in $work with these.
+expect() {
+    if [ "$status" != "$2" ]; then
+        echo "wrong: $1: status $status, wanted $2"
+        wrong=1
+    elif [ "$(cat "$work/notes")" != "$3" ]; then
+        echo "wrong: $1: notes '$(cat "$work/notes")', wanted '$3'"
+        wrong=1
+    elif [ "$4" != - ] && [ "$(cat "$work/out")" != "$4" ]; then
+        echo "wrong: $1: out '$(cat "$work/out")', wanted '$4'"
+        wrong=1
+    else
+        echo "right: $1"
+    fi
+}
+
+./allsat enumerate < examples/first.cnf > /dev/null || { echo "wrong: the program does not run"; exit 1; }
+
+./allsat enumerate < examples/first.cnf > "$work/out" 2> "$work/notes"; status=$?
+expect 'a formula is listed' 0 '' 'v -1 2 0
+v 1 0
+s ALL'
+
+for words in '' 'list' 'enumerate enumerate' 'enumerate 5' '--help'; do
+    # The words are to be split here.
+    ./allsat $words < examples/first.cnf > "$work/out" 2> "$work/notes"; status=$?
+    expect "the words '$words' are refused" 1 'allsat: words refused' ''
+done
+
+printf '\377' > "$work/word"
+./allsat "$(cat "$work/word")" < examples/first.cnf > "$work/out" 2> "$work/notes"; status=$?
+expect 'a word that is no text is refused' 1 'allsat: words refused' ''
+
+printf 'p cnf 2 1\n1 3 0\n' | ./allsat enumerate > "$work/out" 2> "$work/notes"; status=$?
+expect 'a variable above the header is refused' 2 'allsat: input refused: 20 NotBuilt line 1' ''
+
+./allsat enumerate < /dev/null > "$work/out" 2> "$work/notes"; status=$?
+expect 'the empty text is refused' 2 'allsat: input refused: 20 NotBuilt line 1' ''
+
+./allsat enumerate < "$work" > "$work/out" 2> "$work/notes"; status=$?
+expect 'a directory as standard input is a read fault' 5 'allsat: read fault line 1' ''
+
+if [ -c /dev/full ]; then
+    ./allsat enumerate < examples/first.cnf > /dev/full 2> "$work/notes"; status=$?
+    expect 'a full device as standard output is a write fault' 6 'allsat: write fault' -
+else
+    echo 'skipped: no /dev/full here'
+fi
+
+./allsat enumerate < examples/first.cnf 2> "$work/notes" >&-; status=$?
+expect 'a closed standard output is a write fault' 6 'allsat: write fault' -
+
+for example in examples/*.cnf; do
+    if command -v python3 > /dev/null; then
+        ./allsat enumerate < "$example" > "$work/out" && tools/check_listing.py "$example" < "$work/out" > "$work/said"; status=$?
+        cat "$work/said" | sed "s|^|$example: |"
+        [ "$status" = 0 ] || wrong=1
+    else
+        echo "skipped: no python3 here to check the listing of $example"
+    fi
+done
+exit "$wrong"
