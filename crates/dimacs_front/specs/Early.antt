@@ -24,6 +24,7 @@ natural None = None
 natural (Some (pos n)) = Some n
 natural (Some (negsuc n)) = None
 
+-- the header with these numbers, where there are not too many variables
 abbrev pub header_with : Option ℕ → Option ℕ → Option Header
 header_with None c = None
 header_with (Some v) None = None
@@ -71,6 +72,7 @@ formula_with h (Some s) =
     (Some (record { variables = h.variables; clauses = s.clauses }))
     None
 
+-- the formula that these tokens say under a header
 abbrev pub formula_under : Option Header → List (List ℕ) → Option Formula
 formula_under None ts = None
 formula_under (Some h) ts = formula_with h (all_said h.variables (Some nothing_said) ts)

@@ -25,7 +25,11 @@ impl Model for Draft {
 
     ghost Value = { DraftView };
 
-    ghost view = { λ d. record { place = d.place; clauses = d.clauses.items; open_clause = d.open_clause.items } };
+    ghost view = { λ d. record {
+      place = d.place;
+      clauses = d.clauses.items;
+      open_clause = d.open_clause.items;
+    } };
 
     ghost invariant = { λ d. KeepsLimit d.place × All IsLiteral d.open_clause.items };
 }
@@ -75,7 +79,10 @@ impl Draft {
 
     // Ends the clause whose literals are open.
     fn end_clause(&mut self) -> Result<(), AllocError>
-        ensures { OnOk result (self.new ≡ record self.old { clauses = self.old.clauses ++ self.old.open_clause ∷ []; open_clause = [] }) }
+        ensures { OnOk result (self.new ≡ record self.old {
+          clauses = self.old.clauses ++ self.old.open_clause ∷ [];
+          open_clause = [];
+        }) }
     {
         let clause = Clause::from_lits(self.alloc, &self.open_clause)?;
         self.clauses.push(clause)?;

@@ -20,7 +20,9 @@ const BUFFER_SIZE: usize = 65_536;
 /// variables of its formula are shown. Takes memory for the formula and one buffer, whatever the
 /// length of the lines.
 pub fn read_subject<S: Source>(alloc: Global, source: &mut S) -> Result<Subject, ReadRefused>
-    ensures reads { Reads (λ s. s.formula) (S.left source.old) (S.left source.new) (S.faults source.old) (S.faults source.new) result }
+    ensures reads { Reads (λ s. s.formula)
+        (S.left source.old) (S.left source.new)
+        (S.faults source.old) (S.faults source.new) result }
     ensures shown { IfOk result (λ s. s.shown ≡ range_with_len 1 s.formula.variables) }
 
     // What it is for all the bytes that the source had.
@@ -66,7 +68,9 @@ fn read_formula<S: Source>(
     buffer: &mut [u8],
 ) -> Result<Formula, ReadRefused>
     requires { 0 < length buffer.old }
-    ensures { Reads (λ f. f) (S.left source.old) (S.left source.new) (S.faults source.old) (S.faults source.new) result }
+    ensures { Reads (λ f. f)
+        (S.left source.old) (S.left source.new)
+        (S.faults source.old) (S.faults source.new) result }
 {
     let mut reader = Reader::new(alloc);
     let mut count: usize = 0;

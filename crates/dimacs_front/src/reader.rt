@@ -86,7 +86,8 @@ impl Reader {
 
     // Ends the open token, if there is one.
     fn end_token(&mut self) -> Result<(), AllocError>
-        ensures { OnOk result (self.new ≡ reading_at (token_ends eat self.old.state self.old.token) (seen []) self.old.in_line) }
+        ensures { OnOk result (self.new
+            ≡ reading_at (token_ends eat self.old.state self.old.token) (seen []) self.old.in_line) }
     {
         if !self.token.is_empty() {
             self.draft.eat(&self.token)?;
@@ -98,7 +99,8 @@ impl Reader {
     /// The formula of the text that ends here, if it is one of the early form.
     #[tactic(auto, unfolding(dimacs_tokens::specs::Reading::text_ends))]
     pub fn finish(mut self) -> Result<Option<Formula>, AllocError>
-        ensures { IfOk result (λ formula. formula ≡ formula_at_end (text_ends eat close self).draft) }
+        ensures { IfOk result
+            (λ formula. formula ≡ formula_at_end (text_ends eat close self).draft) }
     {
         if self.in_line {
             self.end_token()?;
