@@ -1,5 +1,5 @@
 -- The table of a trail, and the order of its entries.
-use Rattle.std.proofs.Common.{◌≡◌, ℕ, zero, suc, ◌+◌, ◌-◌, ◌<◌, ◌≤◌, ◌^◌, Bool, true, false, not, cond, ◌&&◌, ◌||◌, nat_eq, nat_lt, List, [], ◌∷◌, ◌++◌, length, get_or, set, Option, Some, None, option_to_list, find, ℤ, nat_abs, is_none, refl, sym, ap, subst, ◌∙◌, append_assoc, append-nil, arith, length-set, inl, inr, length-append}
+use Rattle.std.proofs.Common.{◌≡◌, ℕ, suc, ◌-◌, ◌<◌, true, ◌&&◌, nat_eq, nat_lt, List, [], ◌∷◌, ◌++◌, length, get_or, set, Option, Some, None, nat_abs, is_none, refl, sym, ap, subst, ◌∙◌, arith, length-set, inl, inr, length-append}
 use Rattle.std.proofs.lemmas.Bool.{and_parts, and_from, or_cases, cases_Bool, eqb-true, eq-eqb, ne_eqb, ltb-true, lt-ltb}
 use Rattle.std.proofs.lemmas.List.{get_or-set_same, get_or-set_other}
 use Rattle.std.proofs.lemmas.Bool.{cases_eq}
@@ -38,14 +38,14 @@ is_none_from o e = rw e refl
 
 pub table_push : (given : List (Option Entry)) (older : List Entry) (e : Entry) (v : ℕ) → IsTable given older → v ≡ nat_abs e.lit → nat_abs e.lit < length given → entry_of older (nat_abs e.lit) ≡ None → IsTable (set given v (Some e)) (e ∷ older)
 table_push given older e v t same room free = record {
-    small = rw (length-set given v (Some e)) t.small;
-    placed = subst (λ n. are_placed n (e ∷ older) ≡ true) (sym (length-set given v (Some e))) (and_from _ _ (and_from _ _ (lt-ltb (nat_abs e.lit) (length given) room) (is_none_from (entry_of older (nat_abs e.lit)) free)) t.placed);
-    tells = λ w h. elim (cases_Bool (nat_eq w (nat_abs e.lit))) [
-        inl now ↦ rw now (let k : w ≡ v = eqb-true w (nat_abs e.lit) now ∙ sym same in
-          rw k (get_or-set_same given v (Some e) None (omega arith)))
-      | inr other ↦ rw other (get_or-set_other given v w (Some e) None (λ k. let m : nat_eq w (nat_abs e.lit) ≡ true = eq-eqb w (nat_abs e.lit) (k ∙ same) in cc) ∙ t.tells w (omega (arith, length-set given v (Some e))))
-      ];
-  }
+  small = rw (length-set given v (Some e)) t.small;
+  placed = subst (λ n. are_placed n (e ∷ older) ≡ true) (sym (length-set given v (Some e))) (and_from _ _ (and_from _ _ (lt-ltb (nat_abs e.lit) (length given) room) (is_none_from (entry_of older (nat_abs e.lit)) free)) t.placed);
+  tells = λ w h. elim (cases_Bool (nat_eq w (nat_abs e.lit))) [
+    | inl now ↦ rw now (let k : w ≡ v = eqb-true w (nat_abs e.lit) now ∙ sym same in
+        rw k (get_or-set_same given v (Some e) None (omega arith)))
+    | inr other ↦ rw other (get_or-set_other given v w (Some e) None (λ k. let m : nat_eq w (nat_abs e.lit) ≡ true = eq-eqb w (nat_abs e.lit) (k ∙ same) in cc) ∙ t.tells w (omega (arith, length-set given v (Some e))))
+  ];
+}
 
 pub table_pop : (given : List (Option Entry)) (older : List Entry) (e : Entry) (v : ℕ) → IsTable given (e ∷ older) → v ≡ nat_abs e.lit → IsTable (set given v None) older
 table_pop given older e v t same =
@@ -55,9 +55,9 @@ table_pop given older e v t same =
       small = rw (length-set given v None) t.small;
       placed = subst (λ n. are_placed n older ≡ true) (sym (length-set given v None)) rest;
       tells = λ w h. elim (cases_eq w v) [
-          inl k ↦ rw k (get_or-set_same given v None None (let lt = ltb-true (nat_abs e.lit) (length given) room in omega arith) ∙ sym (rw same (none_is (entry_of older (nat_abs e.lit)) free)))
+        | inl k ↦ rw k (get_or-set_same given v None None (let lt = ltb-true (nat_abs e.lit) (length given) room in omega arith) ∙ sym (rw same (none_is (entry_of older (nat_abs e.lit)) free)))
         | inr k ↦ get_or-set_other given v w None None k ∙ t.tells w (omega (arith, length-set given v None)) ∙ (rw (ne_eqb w (nat_abs e.lit) (λ m. k (m ∙ sym same))) refl)
-        ];
+      ];
     }
 
 pub table_room : (given : List (Option Entry)) (older : List Entry) (e : Entry) → IsTable given (e ∷ older) → nat_abs e.lit < length given
@@ -84,6 +84,6 @@ decided_from (Implied place) h = cc
 pub decision_stays : (level : ℕ) (entries : List Entry) (e : Entry) (older : List Entry) → entries ≡ e ∷ older → has_decision level entries ≡ true → (is_decision e.cause ≡ true → e.level ≡ level → ⊥) → has_decision level older ≡ true
 decision_stays level entries e older same h other =
     elim (or_cases (is_decision e.cause && nat_eq e.level level) (has_decision level older) (subst (λ es. has_decision level es ≡ true) same h)) [
-      inl here ↦ let (decided, on) = and_parts (is_decision e.cause) (nat_eq e.level level) here in absurd (other decided (eqb-true e.level level on))
-    | inr rest ↦ rest
+      | inl here ↦ let (decided, on) = and_parts (is_decision e.cause) (nat_eq e.level level) here in absurd (other decided (eqb-true e.level level on))
+      | inr rest ↦ rest
     ]

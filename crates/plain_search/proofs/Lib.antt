@@ -6,3 +6,4 @@ pub mod Passes
 pub mod Work
 pub mod Moves
 pub mod Right
+pub mod SmallSubjects

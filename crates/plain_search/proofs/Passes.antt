@@ -1,5 +1,5 @@
 -- The steps of a pass over the clauses.
-use Rattle.std.proofs.Common.{◌≡◌, ℕ, ◌+◌, ◌<◌, ◌≤◌, Bool, true, false, not, ◌&&◌, ℤ, List, [], ◌∷◌, ◌++◌, length, get_or, take, refl, sym, ap, subst, ◌∙◌, inl, inr, arith, length-append}
+use Rattle.std.proofs.Common.{◌≡◌, ℕ, ◌+◌, ◌<◌, true, false, not, ◌&&◌, ℤ, List, [], ◌∷◌, length, get_or, take, refl, sym, ap, subst, ◌∙◌, inl, inr, arith, length-append}
 use Rattle.std.specs.List.{list_all, All}
 use Rattle.std.specs.Ordering.{int_eq}
 use Rattle.std.proofs.lemmas.Bool.{and_from, or_cases, not_from_false}
@@ -14,7 +14,7 @@ use Rattle.plain_search.specs.declared.search.Passed.{Passed}
 use Rattle.plain_search.specs.declared.search.Passed.TheVariants.{Conflict, Moved, Quiet}
 use Rattle.plain_search.specs.Entries.{top_level}
 use Rattle.plain_search.specs.Scans.{IsUnit, is_false}
-use Rattle.plain_search.specs.Searching.{IsUnitEntry, AreUnitEntries, Propagates}
+use Rattle.plain_search.specs.Searching.{IsUnitEntry, Propagates}
 
 -- what a pass has come to after k clauses
 abbrev pub HasComeTo : List (List ℤ) → List Entry → List Entry → ℕ → Passed → Type 0
@@ -23,13 +23,13 @@ HasComeTo f old new k Moved = length old < length new
 HasComeTo f old new k Quiet = (new ≡ old) × (list_all (λ c. not (list_all (is_false new) c)) (take k f) ≡ true)
 
 pub pass_starts : (f : List (List ℤ)) (old : List Entry) → Propagates f old old
-pass_starts f old = record { added = []; grows = refl; units = tt; }
+pass_starts f old = record { added = []; grows = refl; units = tt }
 
 -- one more step
 pub pass_implies : (f : List (List ℤ)) (old entries new : List Entry) (place : ℕ) (lit : ℤ) → Propagates f old entries → place < length f → IsUnit entries lit (get_or f place []) → new ≡ record { lit = lit; level = top_level entries; cause = Implied place } ∷ entries → Propagates f old new
 pass_implies f old entries new place lit before inside unit grown =
     let e : Entry = record { lit = lit; level = top_level entries; cause = Implied place } in
-    let here : IsUnitEntry f e entries = record { place = place; inside = inside; cause = refl; level = refl; unit = unit; } in
+    let here : IsUnitEntry f e entries = record { place = place; inside = inside; cause = refl; level = refl; unit = unit } in
     record {
       added = e ∷ before.added;
       grows = grown ∙ ap (λ es. e ∷ es) before.grows;
@@ -47,15 +47,17 @@ pass_longer f old entries new e before grown =
 pub pass_neither : (f : List (List ℤ)) (old new : List Entry) (i : ℕ) (passed : Passed) → i < length f → HasComeTo f old new i passed → list_all (is_false new) (get_or f i []) ≡ false → HasComeTo f old new (i + 1) passed
 pass_neither f old new i Conflict h before e = before
 pass_neither f old new i Moved h before e = before
-pass_neither f old new i Quiet h before e =
-    (before.0, rw (take_more f i [] h) (list_all-append (λ c. not (list_all (is_false new) c)) (take i f) (get_or f i [] ∷ [])
-      ∙ and_from (list_all (λ c. not (list_all (is_false new) c)) (take i f)) (not (list_all (is_false new) (get_or f i [])) && true) before.1 (and_from (not (list_all (is_false new) (get_or f i []))) true (not_from_false (list_all (is_false new) (get_or f i [])) e) refl)))
+pass_neither f old new i Quiet h before e = (
+  before.0,
+  rw (take_more f i [] h) (list_all-append (λ c. not (list_all (is_false new) c)) (take i f) (get_or f i [] ∷ [])
+      ∙ and_from (list_all (λ c. not (list_all (is_false new) c)) (take i f)) (not (list_all (is_false new) (get_or f i [])) && true) before.1 (and_from (not (list_all (is_false new) (get_or f i []))) true (not_from_false (list_all (is_false new) (get_or f i [])) e) refl)),
+)
 
 -- what holds of each literal of a clause holds of one of them
 pub All-literal : (P : ℤ → Type 0) (c : List ℤ) (l : ℤ) → All P c → has_literal c l ≡ true → P l
 All-literal P [] l all h = cc
 All-literal P (m ∷ c) l all h =
     elim (or_cases (int_eq l m) (has_literal c l) h) [
-      inl same ↦ subst P (sym (same_from_test l m same)) (All-head P m c all)
-    | inr rest ↦ All-literal P c l (All-tail P m c all) rest
+      | inl same ↦ subst P (sym (same_from_test l m same)) (All-head P m c all)
+      | inr rest ↦ All-literal P c l (All-tail P m c all) rest
     ]

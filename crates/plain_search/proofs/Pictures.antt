@@ -1,18 +1,17 @@
 -- What the entries of the code say is what the picture's trail says.
-use Rattle.std.proofs.Common.{◌≡◌, ℕ, zero, suc, ◌+◌, ◌-◌, ◌<◌, ◌≤◌, Bool, true, false, not, ◌&&◌, ◌||◌, cond, nat_eq, nat_lt, nat_le, ℤ, pos, neg_ℤ, nat_abs, List, [], ◌∷◌, ◌++◌, map, length, get_or, Option, Some, None, is_some, is_none, filter_map, refl, sym, ap, ap₂, subst, ◌∙◌, inl, inr, arith}
-use Rattle.std.specs.List.{list_any, list_all, All, cons_option}
+use Rattle.std.proofs.Common.{◌≡◌, ℕ, ◌<◌, ◌≤◌, Bool, true, false, not, ◌&&◌, ◌||◌, nat_eq, nat_le, ℤ, neg_ℤ, nat_abs, List, [], ◌∷◌, ◌++◌, Option, Some, None, is_some, filter_map, refl, sym, ap, ap₂, subst, ◌∙◌, inl, inr, arith}
+use Rattle.std.specs.List.{list_any, list_all, cons_option}
 use Rattle.std.specs.Ordering.{int_eq}
-use Rattle.std.proofs.lemmas.Bool.{and_parts, and_from, and_left, and_right, or_cases, or_parts, or_from, or_left, or_right, both_ways, not-true, cases_Bool, eqb-true, eq-eqb, ne_eqb, false_from_ne_true, true_from_ne_false, le-leb, lt-leb, leb-true, leb-false}
+use Rattle.std.proofs.lemmas.Bool.{and_parts, and_from, or_cases, or_left, or_right, both_ways, not-true, cases_Bool, eqb-true, eq-eqb, false_from_ne_true, lt-leb}
 use Rattle.std.proofs.lemmas.List.Folds.{list_all-map}
-use Rattle.std.proofs.lemmas.List.{map-append}
 use Rattle.sat_terms.specs.Literals.{lit_true}
 use Rattle.sat_terms.specs.Truth.{holds}
 use Rattle.sat_terms.specs.Cubes.{is_among}
-use Rattle.search_region.specs.Trail.{Kind, Item, depth, is_assigned, seen, seen_upto, upto, false_by, agrees, back, flip, turn_over, is_flipped}
-use Rattle.search_region.specs.Steady.{Steady, Fine, FineKind, FineDecided}
-use Rattle.search_region.specs.Moves.{is_kept, has_pair, is_met, keeps_flips, reaches, CubeOf}
+use Rattle.search_region.specs.Trail.{Kind, Item, depth, is_assigned, seen, seen_upto, upto, false_by, back, flip, turn_over, is_flipped}
+use Rattle.search_region.specs.Steady.{Steady, FineKind, FineDecided}
+use Rattle.search_region.specs.Moves.{is_kept, has_pair, is_met, keeps_flips, CubeOf}
 use Rattle.search_region.proofs.Literals.{same_from_test, all_weaker}
-use Rattle.search_region.proofs.Agree.{levels_within, level_bound}
+use Rattle.search_region.proofs.Agree.{levels_within}
 use Rattle.search_region.proofs.Back.{depth_rises, steady_older, back_split}
 use Rattle.search_region.proofs.Flip.{fine_decided}
 use Rattle.search_region.proofs.Cut.{same_bools}
@@ -22,7 +21,7 @@ use Rattle.plain_search.specs.declared.trail.Cause.TheVariants.{Decided, Flipped
 use Rattle.plain_search.specs.declared.trail.Entry.{Entry}
 use Rattle.plain_search.specs.Entries.{entry_of, is_decision, is_flip, top_level, has_decision}
 use Rattle.plain_search.specs.Pictures.{kind_of, item_of, picture, is_flat}
-use Rattle.plain_search.specs.Scans.{passes, passes_if, is_false, is_or_false, flips_within, holds_upto, meets_upto, is_enough, literal_upto, cube_upto, AreSet}
+use Rattle.plain_search.specs.Scans.{passes, passes_if, is_false, flips_within, holds_upto, meets_upto, is_enough, literal_upto, cube_upto}
 use Rattle.plain_search.proofs.Scans.{entry_variable}
 use Rattle.plain_search.proofs.Shrinks.{cube_over}
 
@@ -38,24 +37,24 @@ all_picture f p entries = list_all-map p (item_of f) entries
 pub assigned_entry : (f : List (List ℤ)) (v : ℕ) (entries : List Entry) → is_assigned v (picture f entries) ≡ is_some (entry_of entries v)
 assigned_entry f v [] = refl
 assigned_entry f v (e ∷ older) = elim (cases_Bool (nat_eq v (nat_abs e.lit))) [
-    inl same ↦ rw same refl
+  | inl same ↦ rw same refl
   | inr other ↦ rw other (assigned_entry f v older)
-  ]
+]
 
 -- the entry of a variable is one of them
 pub entry_any : (test : Entry → Bool) (entries : List Entry) (v : ℕ) (e : Entry) → entry_of entries v ≡ Some e → test e ≡ true → list_any test entries ≡ true
 entry_any test [] v e h g = cc
 entry_any test (d ∷ older) v e h g = elim (cases_Bool (nat_eq v (nat_abs d.lit))) [
-    inl same ↦ let here : Some d ≡ Some e = rw same at h in let k : d ≡ e = cc in or_left (test d) (list_any test older) (ap test k ∙ g)
+  | inl same ↦ let here : Some d ≡ Some e = rw same at h in let k : d ≡ e = cc in or_left (test d) (list_any test older) (ap test k ∙ g)
   | inr other ↦ let rest : entry_of older v ≡ Some e = rw other at h in or_right (test d) (list_any test older) (entry_any test older v e rest g)
-  ]
+]
 
 pub entry_all : (test : Entry → Bool) (entries : List Entry) (v : ℕ) (e : Entry) → entry_of entries v ≡ Some e → list_all test entries ≡ true → test e ≡ true
 entry_all test [] v e h g = cc
 entry_all test (d ∷ older) v e h g = elim (cases_Bool (nat_eq v (nat_abs d.lit))) [
-    inl same ↦ let here : Some d ≡ Some e = rw same at h in let k : d ≡ e = cc in ap test (sym k) ∙ (and_parts (test d) (list_all test older) g).0
+  | inl same ↦ let here : Some d ≡ Some e = rw same at h in let k : d ≡ e = cc in ap test (sym k) ∙ (and_parts (test d) (list_all test older) g).0
   | inr other ↦ let rest : entry_of older v ≡ Some e = rw other at h in entry_all test older v e rest (and_parts (test d) (list_all test older) g).1
-  ]
+]
 
 none_from : (o : Option Entry) → is_some o ≡ false → o ≡ None
 none_from None h = refl
@@ -70,14 +69,14 @@ module _ (f : List (List ℤ)) (shown : ℕ → Bool) where
   pub any_entry : (test : Entry → Bool) (v : ℕ) → ((e : Entry) → test e ≡ true → nat_abs e.lit ≡ v) → (entries : List Entry) → Steady f shown (picture f entries) → list_any test entries ≡ passes test (entry_of entries v)
   any_entry test v only [] s = refl
   any_entry test v only (e ∷ older) s = elim (cases_Bool (nat_eq v (nat_abs e.lit))) [
-      inl same ↦
+    | inl same ↦
         let none : entry_of older v ≡ None = ap (entry_of older) (eqb-true v (nat_abs e.lit) same) ∙ entry_fresh e older s in
         let rest : list_any test older ≡ false = any_entry test v only older s.1 ∙ ap (passes test) none in
         rw (same, rest) (or_none (test e))
     | inr other ↦
         let wrong : test e ≡ false = false_from_ne_true (test e) λ h. both_ways (nat_eq v (nat_abs e.lit)) other (eq-eqb v (nat_abs e.lit) (sym (only e h))) in
         rw (other, wrong) (any_entry test v only older s.1)
-    ]
+  ]
     where
       or_none : (b : Bool) → (b || false) ≡ b
       or_none true = refl
@@ -90,6 +89,7 @@ module _ (f : List (List ℤ)) (shown : ℕ → Bool) where
     where
       within : list_all (λ e. nat_le e.level k) entries ≡ true
       within = sym (all_picture f (upto k) entries) ∙ levels_within f shown k (picture f entries) s low
+
       at_entry : (o : Option Entry) → entry_of entries (nat_abs l) ≡ o → list_any (λ e. int_eq l (neg_ℤ e.lit) && nat_le e.level k) entries ≡ true
       at_entry None e = let none : false ≡ true = rw e at h in cc
       at_entry (Some d) e =
@@ -107,34 +107,37 @@ module _ (f : List (List ℤ)) (shown : ℕ → Bool) where
       there (e ∷ older) z h =
           and_from (not (is_among p (nat_abs e.lit)) || test e) (list_all (λ d. not (is_among p (nat_abs d.lit)) || test d) older)
           (elim (cases_Bool (is_among p (nat_abs e.lit))) [
-             inl among ↦ or_right (not (is_among p (nat_abs e.lit))) (test e)
-               (let here = all_among (λ v. passes_if test (entry_of (e ∷ older) v)) p h (nat_abs e.lit) among in
+            | inl among ↦ or_right (not (is_among p (nat_abs e.lit))) (test e)
+                (let here = all_among (λ v. passes_if test (entry_of (e ∷ older) v)) p h (nat_abs e.lit) among in
                 let own : nat_eq (nat_abs e.lit) (nat_abs e.lit) ≡ true = eq-eqb (nat_abs e.lit) (nat_abs e.lit) refl in
                 rw own at here)
-           | inr hides ↦ or_left (not (is_among p (nat_abs e.lit))) (test e) (rw hides refl)
-           ])
+            | inr hides ↦ or_left (not (is_among p (nat_abs e.lit))) (test e) (rw hides refl)
+          ])
           (there older z.1 (all_weaker (λ v. passes_if test (entry_of (e ∷ older) v)) (λ v. passes_if test (entry_of older v)) fewer p h))
         where
           all_among : (q : ℕ → Bool) (r : List ℕ) → list_all q r ≡ true → (v : ℕ) → is_among r v ≡ true → q v ≡ true
           all_among q [] g v k = cc
           all_among q (w ∷ r) g v k = elim (or_cases (nat_eq v w) (is_among r v) k) [
-              inl same ↦ ap q (eqb-true v w same) ∙ (and_parts (q w) (list_all q r) g).0
+            | inl same ↦ ap q (eqb-true v w same) ∙ (and_parts (q w) (list_all q r) g).0
             | inr rest ↦ all_among q r (and_parts (q w) (list_all q r) g).1 v rest
-            ]
+          ]
+
           fewer : (v : ℕ) → passes_if test (entry_of (e ∷ older) v) ≡ true → passes_if test (entry_of older v) ≡ true
           fewer v k = elim (cases_Bool (nat_eq v (nat_abs e.lit))) [
-              inl same ↦ ap (passes_if test) (ap (entry_of older) (eqb-true v (nat_abs e.lit) same) ∙ entry_fresh e older z)
+            | inl same ↦ ap (passes_if test) (ap (entry_of older) (eqb-true v (nat_abs e.lit) same) ∙ entry_fresh e older z)
             | inr other ↦ rw other at k
-            ]
+          ]
+
       back_again : list_all (λ e. not (is_among p (nat_abs e.lit)) || test e) entries ≡ true → list_all (λ v. passes_if test (entry_of entries v)) p ≡ true
       back_again h = each p (λ v k. k)
         where
           at_entry : (v : ℕ) → is_among p v ≡ true → (o : Option Entry) → entry_of entries v ≡ o → passes_if test (entry_of entries v) ≡ true
           at_entry v among None e = rw e refl
           at_entry v among (Some d) e = rw e (elim (or_cases (not (is_among p (nat_abs d.lit))) (test d) (entry_all (λ x. not (is_among p (nat_abs x.lit)) || test x) entries v d e h)) [
-              inl hides ↦ absurd (both_ways (is_among p v) (ap (is_among p) (sym (entry_variable entries v d e)) ∙ not-true (is_among p (nat_abs d.lit)) hides) among)
+            | inl hides ↦ absurd (both_ways (is_among p v) (ap (is_among p) (sym (entry_variable entries v d e)) ∙ not-true (is_among p (nat_abs d.lit)) hides) among)
             | inr now ↦ now
-            ])
+          ])
+
           each : (r : List ℕ) → ((v : ℕ) → is_among r v ≡ true → is_among p v ≡ true) → list_all (λ v. passes_if test (entry_of entries v)) r ≡ true
           each [] k = refl
           each (w ∷ r) k =
@@ -148,7 +151,7 @@ module _ (f : List (List ℤ)) (p : List ℕ) where
   kept_same b entries l s =
       any_picture f (λ i. int_eq l i.lit && (not (seen (is_among p) i) || nat_le i.level b)) entries
       ∙ any_entry f (is_among p) (λ e. int_eq l e.lit && (not (is_among p (nat_abs e.lit)) || nat_le e.level b)) (nat_abs l)
-        (λ e h. ap nat_abs (sym (same_from_test l e.lit (and_parts (int_eq l e.lit) (not (is_among p (nat_abs e.lit)) || nat_le e.level b) h).0))) entries s
+      (λ e h. ap nat_abs (sym (same_from_test l e.lit (and_parts (int_eq l e.lit) (not (is_among p (nat_abs e.lit)) || nat_le e.level b) h).0))) entries s
       ∙ at_entry (entry_of entries (nat_abs l)) refl
     where
       at_entry : (o : Option Entry) → entry_of entries (nat_abs l) ≡ o → passes (λ e. int_eq l e.lit && (not (is_among p (nat_abs e.lit)) || nat_le e.level b)) (entry_of entries (nat_abs l)) ≡ holds_upto b entries p l
@@ -172,11 +175,13 @@ module _ (f : List (List ℤ)) (p : List ℕ) where
       turned Decided = refl
       turned Flipped = refl
       turned (Implied place) = refl
+
       order : (x y z : Bool) → (not (x && y) || z) ≡ (not y || (not x || z))
       order true true z = refl
       order true false z = refl
       order false true z = refl
       order false false z = refl
+
       each : (es : List Entry) → list_all (λ e. not (is_flipped (kind_of f e.cause) && is_among p (nat_abs e.lit)) || nat_le e.level b) es ≡ list_all (λ e. not (is_among p (nat_abs e.lit)) || (not (is_flip e.cause) || nat_le e.level b)) es
       each [] = refl
       each (e ∷ es) = ap₂ (λ x y. x && y) (ap (λ x. not (x && is_among p (nat_abs e.lit)) || nat_le e.level b) (turned e.cause) ∙ order (is_flip e.cause) (is_among p (nat_abs e.lit)) (nat_le e.level b)) (each es)
@@ -191,29 +196,33 @@ module _ (f : List (List ℤ)) (p : List ℕ) where
   -- the cube of a level holds just what the shown items up to it say
   pub cube_of : (b : ℕ) (entries : List Entry) → Steady f (is_among p) (picture f entries) → CubeOf (is_among p) b (picture f entries) (cube_upto b entries p)
   cube_of b entries s = record {
-      over_shown = cube_over b entries p p (λ v h. h);
-      says = λ t. literals t p
+    over_shown = cube_over b entries p p (λ v h. h);
+    says = λ t. literals t p
         ∙ shown_entries f (is_among p) (λ e. not (nat_le e.level b) || lit_true t e.lit) p entries s
         ∙ each t entries
         ∙ sym (all_picture f (λ i. not (seen_upto (is_among p) b i) || lit_true t i.lit) entries);
-    }
+  }
     where
       at_entry : (t : ℕ → Bool) (o : Option Entry) (rest : List ℤ) → holds t (filter_map (λ (x : ℕ). literal_upto b o) (0 ∷ []) ++ rest) ≡ (passes_if (λ e. not (nat_le e.level b) || lit_true t e.lit) o && holds t rest)
       at_entry t None rest = refl
       at_entry t (Some d) rest = elim (cases_Bool (nat_le d.level b)) [ inl low ↦ rw low refl | inr high ↦ rw high refl ]
+
       as_one : (o : Option ℤ) (rest : List ℤ) → filter_map (λ (x : ℕ). o) (0 ∷ []) ++ rest ≡ cons_option o rest
       as_one None rest = refl
       as_one (Some l) rest = refl
+
       literals : (t : ℕ → Bool) (r : List ℕ) → holds t (cube_upto b entries r) ≡ list_all (λ v. passes_if (λ e. not (nat_le e.level b) || lit_true t e.lit) (entry_of entries v)) r
       literals t [] = refl
       literals t (v ∷ r) =
           ap (holds t) (sym (as_one (literal_upto b (entry_of entries v)) (cube_upto b entries r)))
           ∙ at_entry t (entry_of entries v) (cube_upto b entries r)
           ∙ ap (λ x. passes_if (λ e. not (nat_le e.level b) || lit_true t e.lit) (entry_of entries v) && x) (literals t r)
+
       order : (x y z : Bool) → (not x || (not y || z)) ≡ (not (x && y) || z)
       order true true z = refl
       order true false z = refl
       order false y z = refl
+
       each : (t : ℕ → Bool) (es : List Entry) → list_all (λ e. not (is_among p (nat_abs e.lit)) || (not (nat_le e.level b) || lit_true t e.lit)) es ≡ list_all (λ e. not (is_among p (nat_abs e.lit) && nat_le e.level b) || lit_true t e.lit) es
       each t [] = refl
       each t (e ∷ es) = ap₂ (λ x y. x && y) (order (is_among p (nat_abs e.lit)) (nat_le e.level b) (lit_true t e.lit)) (each t es)
@@ -236,14 +245,15 @@ module _ (f : List (List ℤ)) (shown : ℕ → Bool) where
     where
       later : (k ≤ depth (picture f older) → has_decision k older ≡ true) → k ≤ depth (picture f older) → has_decision k (e ∷ older) ≡ true
       later before low_old = or_right (is_decision e.cause && nat_eq e.level k) (has_decision k older) (before low_old)
+
       by_cause : (c : Cause) → e.cause ≡ c → FineKind f shown (kind_of f e.cause) (item_of f e) (picture f older) → k ≤ depth (picture f (e ∷ older)) → (k ≤ depth (picture f older) → has_decision k older ≡ true) → has_decision k (e ∷ older) ≡ true
       by_cause Decided c fine low_now before =
           let decided : FineDecided shown (item_of f e) (picture f older) = subst (λ x. FineKind f shown (kind_of f x) (item_of f e) (picture f older)) c fine in
           let now : k ≤ e.level = rw c at low_now in
           let opens = decided.opens in
           elim (cases_le k (depth (picture f older))) [
-            inl low_old ↦ later before low_old
-          | inr high ↦ or_left (is_decision e.cause && nat_eq e.level k) (has_decision k older) (and_from (is_decision e.cause) (nat_eq e.level k) (ap is_decision c) (eq-eqb e.level k (omega arith)))
+            | inl low_old ↦ later before low_old
+            | inr high ↦ or_left (is_decision e.cause && nat_eq e.level k) (has_decision k older) (and_from (is_decision e.cause) (nat_eq e.level k) (ap is_decision c) (eq-eqb e.level k (omega arith)))
           ]
       by_cause Flipped c fine low_now before = later before (rw c at low_now)
       by_cause (Implied place) c fine low_now before = later before (rw c at low_now)

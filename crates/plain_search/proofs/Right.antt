@@ -1,15 +1,15 @@
 -- What a search has found at its end, sorted, is the right list.
-use Rattle.std.proofs.Common.{◌≡◌, ◌↔◌, ℕ, zero, suc, ◌+◌, ◌<◌, ◌≤◌, Bool, true, false, not, ◌&&◌, ◌||◌, cond, nat_eq, nat_lt, ℤ, neg_ℤ, nat_abs, List, [], ◌∷◌, ◌++◌, map, length, get_or, refl, sym, ap, ap₂, subst, ◌∙◌, inl, inr, arith, All, AllPairs, IsPermutation, IsSorted, Ordering, Less, Equal, Greater, is_lt}
-use Rattle.std.specs.List.{list_any, list_all, sum_by, AllAdjacentBelow}
+use Rattle.std.proofs.Common.{◌≡◌, ℕ, zero, suc, ◌+◌, ◌<◌, ◌≤◌, Bool, true, false, nat_eq, ℤ, nat_abs, List, [], ◌∷◌, map, length, get_or, refl, sym, ap, ap₂, subst, ◌∙◌, inl, inr, arith, All, AllPairs, IsPermutation, IsSorted, Ordering, Less, Equal, Greater, is_lt}
+use Rattle.std.specs.List.{list_any, AllAdjacentBelow}
 use Rattle.std.specs.List.Sorted.{IsStrictlyIncreasing}
 use Rattle.std.specs.Cmp.{IsTotalOrder}
 use Rattle.std.specs.Cmp.Lexicographic.{on_texts}
-use Rattle.std.proofs.lemmas.Bool.{and_parts, and_from, or_cases, or_parts, or_from, or_left, or_right, both_ways, cases_Bool, eqb-true, eq-eqb, ne_eqb, false_from_ne_true, true_from_ne_false}
+use Rattle.std.proofs.lemmas.Bool.{or_cases, or_left, or_right, both_ways, cases_Bool, eq-eqb, ne_eqb}
 use Rattle.std.proofs.lemmas.List.Recursion.{is_sum_by}
 use Rattle.std.proofs.lemmas.List.Sorted.{All-permutation, sum_by-IsPermutation}
 use Rattle.std.proofs.lemmas.List.Elements.{All-head, All-tail}
 use Rattle.std.proofs.lemmas.Map.Lookups.{exact_bytes}
-use Rattle.sat_terms.specs.Truth.{sat, holds}
+use Rattle.sat_terms.specs.Truth.{holds}
 use Rattle.sat_terms.specs.Assignments.{assignment_of, lies_in, IsGood}
 use Rattle.sat_terms.specs.Cubes.{IsCube, is_among, rises_above, apart}
 use Rattle.sat_terms.specs.CubeOrder.{key, cube_order}
@@ -19,8 +19,7 @@ use Rattle.sat_terms.proofs.Keys.{same_from_keys}
 use Rattle.sat_terms.proofs.CubeLemmas.{apart-skip_both, rises_above-head, rises_above-tail}
 use Rattle.sat_terms.proofs.Disjoint.{apart-from_disjoint, lies_in-map}
 use Rattle.search_region.specs.Cubes.{hit, hits, Good}
-use Rattle.search_region.specs.Region.{Closed}
-use Rattle.search_region.proofs.Closed.{closed_once, closed_good}
+use Rattle.search_region.proofs.Closed.{closed_once}
 use Rattle.plain_search.specs.Searching.{IsDone}
 
 -- an assignment in some cube is counted
@@ -28,16 +27,16 @@ any_hit : (t : ℕ → Bool) (cubes : List (List ℤ)) → list_any (holds t) cu
 any_hit t [] h = cc
 any_hit t (c ∷ cubes) h =
     elim (or_cases (holds t c) (list_any (holds t) cubes) h) [
-      inl here ↦ let one : hit t c ≡ 1 = rw here refl in omega arith
-    | inr rest ↦ let some = any_hit t cubes rest in omega arith
+      | inl here ↦ let one : hit t c ≡ 1 = rw here refl in omega arith
+      | inr rest ↦ let some = any_hit t cubes rest in omega arith
     ]
 
 hit_any : (t : ℕ → Bool) (cubes : List (List ℤ)) → 0 < hits t cubes → list_any (holds t) cubes ≡ true
 hit_any t [] h = absurd (omega arith)
 hit_any t (c ∷ cubes) h =
     elim (cases_Bool (holds t c)) [
-      inl here ↦ or_left (holds t c) (list_any (holds t) cubes) here
-    | inr out ↦ or_right (holds t c) (list_any (holds t) cubes) (hit_any t cubes (let none : hit t c ≡ 0 = rw out refl in omega arith))
+      | inl here ↦ or_left (holds t c) (list_any (holds t) cubes) here
+      | inr out ↦ or_right (holds t c) (list_any (holds t) cubes) (hit_any t cubes (let none : hit t c ≡ 0 = rw out refl in omega arith))
     ]
 
 place_hit : (t : ℕ → Bool) (cubes : List (List ℤ)) (i : ℕ) (d : List ℤ) → i < length cubes → holds t (get_or cubes i d) ≡ true → 0 < hits t cubes
@@ -74,9 +73,11 @@ values_of (q ∷ p) (b ∷ a) up h =
   where
     later : IsStrictlyIncreasing p
     later k g = let next : suc k + 1 ≡ suc (k + 1) = omega arith in subst (λ m. get_or p k 0 < get_or (q ∷ p) m 0) next (up (suc k) (omega arith))
+
     above_first : (k : ℕ) → k < length p → q < get_or p k 0
     above_first zero g = let one : 0 + 1 ≡ suc 0 = omega arith in subst (λ m. q < get_or (q ∷ p) m 0) one (up 0 (omega arith))
     above_first (suc k) g = let before = above_first k (omega arith) in let next : k + 1 ≡ suc k = omega arith in let step = subst (λ m. get_or p k 0 < get_or p m 0) next (later k (omega arith)) in omega arith
+
     apart_from_first : (r : List ℕ) → ((k : ℕ) → k < length r → q < get_or r k 0) → map (assignment_of (q ∷ p) (b ∷ a)) r ≡ map (assignment_of p a) r
     apart_from_first [] g = refl
     apart_from_first (v ∷ r) g =
@@ -88,6 +89,7 @@ less_from_sorted c d h other = by_order (cube_order c d) refl
   where
     total : IsTotalOrder cube_order
     total = on_texts (map key)
+
     by_order : (o : Ordering) → cube_order c d ≡ o → cube_order c d ≡ Less
     by_order Less e = e
     by_order Equal e = absurd (other (same_from_keys c d (exact_bytes (map key c) (map key d) e)))
@@ -111,7 +113,7 @@ module _ (n : ℕ) (f : List (List ℤ)) (p : List ℕ) (found cubes : List (Lis
   rising k d inside =
       less_from_sorted (get_or cubes k d) (get_or cubes (k + 1) d) (sorted k d (omega arith) inside)
       (λ same. both_ways (apart (get_or cubes k d) (get_or cubes k d)) (apart_self 0 (get_or cubes k d) (over k d (omega arith)).rising)
-         (subst (λ x. apart (get_or cubes k d) x ≡ true) (sym same) (disjoint k (k + 1) d (omega arith) inside)))
+      (subst (λ x. apart (get_or cubes k d) x ≡ true) (sym same) (disjoint k (k + 1) d (omega arith) inside)))
 
   good_from_hit : (a : List Bool) → length a ≡ length p → list_any (lies_in p a) cubes ≡ true → IsGood f p a
   good_from_hit a long h =
@@ -140,8 +142,8 @@ module _ (n : ℕ) (f : List (List ℤ)) (p : List ℕ) (found cubes : List (Lis
       in_cubes [] all h = h
       in_cubes (c ∷ cs) all h =
           elim (or_cases (holds g.model c) (list_any (holds g.model) cs) h) [
-            inl here ↦ or_left (lies_in p a c) (list_any (lies_in p a) cs) (ap (λ x. lies_in p x c) (sym g.projects) ∙ lies_in-map g.model p c (All-head (IsCube p) c cs all).over ∙ here)
-          | inr rest ↦ or_right (lies_in p a c) (list_any (lies_in p a) cs) (in_cubes cs (All-tail (IsCube p) c cs all) rest)
+            | inl here ↦ or_left (lies_in p a c) (list_any (lies_in p a) cs) (ap (λ x. lies_in p x c) (sym g.projects) ∙ lies_in-map g.model p c (All-head (IsCube p) c cs all).over ∙ here)
+            | inr rest ↦ or_right (lies_in p a c) (list_any (lies_in p a) cs) (in_cubes cs (All-tail (IsCube p) c cs all) rest)
           ]
 
   -- the right list

@@ -1,16 +1,16 @@
 -- The levels that clauses need, and the cube of a level.
-use Rattle.std.proofs.Common.{◌≡◌, ℕ, zero, suc, ◌+◌, ◌<◌, ◌≤◌, ◌^◌, Bool, true, false, not, ◌&&◌, ◌||◌, cond, nat_eq, nat_lt, nat_le, ℤ, pos, neg_ℤ, nat_abs, List, [], ◌∷◌, ◌++◌, length, get_or, take, Option, Some, None, IsSome, is_some, is_none, option_to_list, filter_map, refl, sym, ap, subst, ◌∙◌, inl, inr, arith, rules}
+use Rattle.std.proofs.Common.{◌≡◌, ℕ, suc, ◌+◌, ◌<◌, ◌≤◌, ◌^◌, Bool, true, false, not, ◌&&◌, ◌||◌, nat_eq, nat_lt, nat_le, ℤ, nat_abs, List, [], ◌∷◌, ◌++◌, length, get_or, take, Option, Some, None, IsSome, option_to_list, filter_map, refl, sym, ap, subst, ◌∙◌, inl, inr, arith, rules}
 use Rattle.std.specs.List.{list_any, list_all, All}
 use Rattle.std.specs.List.Sorted.{IsStrictlyIncreasing}
 use Rattle.std.specs.Ordering.{int_eq}
-use Rattle.std.proofs.lemmas.Bool.{and_parts, and_from, or_cases, or_from, or_left, or_right, both_ways, cases_Bool, eqb-true, eq-eqb, false_from_ne_true, le-leb, lt-leb, ltb-true, lt-ltb}
+use Rattle.std.proofs.lemmas.Bool.{and_parts, and_from, or_cases, or_left, or_right, cases_Bool, eq-eqb, le-leb, lt-leb, ltb-true, lt-ltb}
 use Rattle.std.proofs.lemmas.List.{take_more}
 use Rattle.std.proofs.lemmas.List.Elements.{filter_map-append, All-nil, All-cons, All-head, All-tail}
 use Rattle.sat_terms.specs.Literals.{IsLiteral}
 use Rattle.sat_terms.specs.Cubes.{is_among, rises_above}
 use Rattle.plain_search.specs.declared.trail.Entry.{Entry}
 use Rattle.plain_search.specs.Entries.{entry_of}
-use Rattle.plain_search.specs.Scans.{passes, is_true, holds_upto, is_within, literal_upto, cube_upto}
+use Rattle.plain_search.specs.Scans.{is_true, holds_upto, is_within, literal_upto, cube_upto}
 use Rattle.plain_search.proofs.Scans.{entry_variable}
 
 -- a true literal counts at some level
@@ -18,16 +18,18 @@ pub true_has_level : (entries : List Entry) (p : List ℕ) (c : List ℤ) → li
 true_has_level entries p [] h = cc
 true_has_level entries p (l ∷ c) h =
     elim (or_cases (is_true entries l) (list_any (is_true entries) c) h) [
-      inl here ↦ at_entry (entry_of entries (nat_abs l)) refl here
-    | inr rest ↦ let (b, k) = true_has_level entries p c rest in (b, or_right (holds_upto b entries p l) (list_any (holds_upto b entries p) c) k)
+      | inl here ↦ at_entry (entry_of entries (nat_abs l)) refl here
+      | inr rest ↦ let (b, k) = true_has_level entries p c rest in (b, or_right (holds_upto b entries p l) (list_any (holds_upto b entries p) c) k)
     ]
   where
     at_entry : (o : Option Entry) → entry_of entries (nat_abs l) ≡ o → is_true entries l ≡ true → (b : ℕ) × (list_any (holds_upto b entries p) (l ∷ c) ≡ true)
     at_entry None e h = let none : false ≡ true = rw e at h in cc
     at_entry (Some d) e h =
-        let same : int_eq l d.lit ≡ true = rw e at h in
-        (d.level, or_left (holds_upto d.level entries p l) (list_any (holds_upto d.level entries p) c)
-          (rw e (and_from (int_eq l d.lit) (not (is_among p (nat_abs l)) || nat_le d.level d.level) same (or_right (not (is_among p (nat_abs l))) (nat_le d.level d.level) (le-leb d.level d.level (omega arith))))))
+        let same : int_eq l d.lit ≡ true = rw e at h in (
+          d.level,
+          or_left (holds_upto d.level entries p l) (list_any (holds_upto d.level entries p) c)
+              (rw e (and_from (int_eq l d.lit) (not (is_among p (nat_abs l)) || nat_le d.level d.level) same (or_right (not (is_among p (nat_abs l))) (nat_le d.level d.level) (le-leb d.level d.level (omega arith))))),
+        )
 
 pub level_there : (r : Option ℕ) (b : ℕ) → is_within b r ≡ true → IsSome r
 level_there None b h = cc
@@ -49,9 +51,9 @@ literal_variable b entries v l h = at_entry (entry_of entries v) refl h
     at_entry : (o : Option Entry) → entry_of entries v ≡ o → literal_upto b (entry_of entries v) ≡ Some l → nat_abs l ≡ v
     at_entry None e h = let none : ◌≡◌ {A = Option ℤ} None (Some l) = rw e at h in cc
     at_entry (Some d) e h = elim (cases_Bool (nat_le d.level b)) [
-        inl low ↦ let here : Some d.lit ≡ Some l = rw (e, low) at h in let same : d.lit ≡ l = cc in ap nat_abs (sym same) ∙ entry_variable entries v d e
+      | inl low ↦ let here : Some d.lit ≡ Some l = rw (e, low) at h in let same : d.lit ≡ l = cc in ap nat_abs (sym same) ∙ entry_variable entries v d e
       | inr high ↦ let none : ◌≡◌ {A = Option ℤ} None (Some l) = rw (e, high) at h in cc
-      ]
+    ]
 
 -- numbers that rise from above n on
 abbrev rises : ℕ → List ℕ → Bool
@@ -63,7 +65,7 @@ rises_from_increasing n [] up h = refl
 rises_from_increasing n (v ∷ p) up h =
     and_from (nat_lt n v) (rises v p) (lt-ltb n v (h (omega arith)))
     (rises_from_increasing v p (λ k g. let next : suc k + 1 ≡ suc (k + 1) = omega arith in subst (λ m. get_or p k 0 < get_or (v ∷ p) m 0) next (up (suc k) (omega arith)))
-     (λ g. let one : 0 + 1 ≡ suc 0 = omega arith in subst (λ m. v < get_or (v ∷ p) m 0) one (up 0 (omega arith))))
+    (λ g. let one : 0 + 1 ≡ suc 0 = omega arith in subst (λ m. v < get_or (v ∷ p) m 0) one (up 0 (omega arith))))
 
 rises_lower : (m n : ℕ) (c : List ℤ) → n ≤ m → rises_above m c ≡ true → rises_above n c ≡ true
 rises_lower m n [] h r = refl

@@ -1,10 +1,9 @@
 -- Each move leaves less to do.
-use Rattle.std.proofs.Common.{◌≡◌, ℕ, zero, suc, ◌+◌, ◌-◌, ◌*◌, ◌^◌, ◌<◌, ◌≤◌, Bool, true, false, not, ◌&&◌, cond, nat_eq, nat_lt, nat_le, ℤ, neg_ℤ, nat_abs, List, [], ◌∷◌, ◌++◌, Option, Some, None, is_none, refl, sym, ap, subst, ◌∙◌, inl, inr, arith, pow-suc}
+use Rattle.std.proofs.Common.{◌≡◌, ℕ, zero, suc, ◌+◌, ◌^◌, ◌<◌, ◌≤◌, Bool, true, false, cond, nat_eq, nat_lt, nat_le, ℤ, nat_abs, List, [], ◌∷◌, ◌++◌, Some, None, is_none, refl, sym, ap, subst, ◌∙◌, inl, inr, arith, pow-suc}
 use Rattle.std.specs.List.{list_all}
-use Rattle.std.proofs.lemmas.Bool.{and_parts, and_from, cases_Bool, eqb-true, eq-eqb, ne_eqb, ltb-true, leb-true, cases_eq}
+use Rattle.std.proofs.lemmas.Bool.{and_parts, cases_Bool, eq-eqb, ne_eqb, ltb-true, leb-true, cases_eq}
 use Rattle.search_region.specs.Trail.{depth}
 use Rattle.search_region.specs.Steady.{Steady, FineKind, FineDecided}
-use Rattle.search_region.proofs.Region.{cases_le}
 use Rattle.plain_search.specs.declared.trail.Cause.{Cause}
 use Rattle.plain_search.specs.declared.trail.Cause.TheVariants.{Decided, Flipped, Implied}
 use Rattle.plain_search.specs.declared.trail.Entry.{Entry}
@@ -26,13 +25,13 @@ pub free_push : (n : ℕ) (e : Entry) (older : List Entry) → 0 < nat_abs e.lit
 free_push zero e older named low fresh = absurd (omega arith)
 free_push (suc n) e older named low fresh =
     elim (cases_eq (suc n) (nat_abs e.lit)) [
-      inl same ↦
-        let here : cond {A = ℕ} (is_none (entry_of older (suc n))) 1 0 ≡ 1 = rw (same, fresh) refl in
-        let before = free_above n e older (omega arith) in
-        rw (eq-eqb (suc n) (nat_abs e.lit) same) (omega arith)
-    | inr other ↦
-        let before = free_push n e older named (omega arith) fresh in
-        rw (ne_eqb (suc n) (nat_abs e.lit) other) (omega arith)
+      | inl same ↦
+          let here : cond {A = ℕ} (is_none (entry_of older (suc n))) 1 0 ≡ 1 = rw (same, fresh) refl in
+          let before = free_above n e older (omega arith) in
+          rw (eq-eqb (suc n) (nat_abs e.lit) same) (omega arith)
+      | inr other ↦
+          let before = free_push n e older named (omega arith) fresh in
+          rw (ne_eqb (suc n) (nat_abs e.lit) other) (omega arith)
     ]
 
 free_same : (n : ℕ) (d e : Entry) (older : List Entry) → nat_abs d.lit ≡ nat_abs e.lit → free_count n (d ∷ older) ≡ free_count n (e ∷ older)

@@ -1,7 +1,6 @@
 -- The entries of a trail, the newest first, and what they say of a variable.
-use Rattle.std.specs.Prelude.{◌≡◌, ℕ, suc, ◌+◌, ◌-◌, ◌<◌, ◌≤◌, ◌^◌, Bool, true, false, not, cond, ◌&&◌, ◌||◌, nat_eq, nat_lt, nat_le, List, [], ◌∷◌, ◌++◌, length, slice_index_or, find, ℤ, neg_ℤ, nat_abs, Option, None, is_none}
-use Rattle.std.specs.List.{list_any, list_all}
-use Rattle.std.specs.Ordering.{int_eq}
+use Rattle.std.specs.Prelude.{◌≡◌, ℕ, ◌-◌, ◌<◌, ◌≤◌, ◌^◌, Bool, true, false, ◌&&◌, nat_eq, nat_lt, List, [], ◌∷◌, ◌++◌, length, slice_index_or, find, neg_ℤ, nat_abs, Option, None, is_none}
+use Rattle.std.specs.List.{list_any}
 use Rattle.plain_search.specs.declared.trail.Cause.{Cause}
 use Rattle.plain_search.specs.declared.trail.Cause.TheVariants.{Decided, Flipped, Implied}
 use Rattle.plain_search.specs.declared.trail.Entry.{Entry}

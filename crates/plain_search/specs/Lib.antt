@@ -2,3 +2,4 @@ pub mod Entries
 pub mod Pictures
 pub mod Scans
 pub mod Searching
+pub mod SmallSubjects

@@ -1,5 +1,5 @@
 -- The entries of the code as the trail of the picture.
-use Rattle.std.specs.Prelude.{◌≡◌, ℕ, zero, suc, ◌+◌, ◌^◌, Bool, true, false, cond, ◌&&◌, nat_eq, List, [], ◌∷◌, map, slice_index_or, ℤ, is_none}
+use Rattle.std.specs.Prelude.{ℕ, zero, suc, ◌+◌, ◌^◌, Bool, true, cond, ◌&&◌, nat_eq, List, [], ◌∷◌, map, slice_index_or, ℤ, is_none}
 use Rattle.search_region.specs.Trail.{Kind, Item, depth}
 use Rattle.plain_search.specs.declared.trail.Cause.{Cause}
 use Rattle.plain_search.specs.declared.trail.Cause.TheVariants.{Decided, Flipped, Implied}

@@ -1,5 +1,5 @@
 -- Literals and clauses under a trail.
-use Rattle.std.specs.Prelude.{◌≡◌, ℕ, ◌<◌, ◌≤◌, Bool, true, false, not, ◌&&◌, ◌||◌, nat_le, if◌then◌else◌, List, [], ◌∷◌, length, slice_index_or, filter_map, ℤ, neg_ℤ, nat_abs, Option, Some, None, is_some}
+use Rattle.std.specs.Prelude.{◌≡◌, ℕ, ◌<◌, ◌≤◌, Bool, true, false, not, ◌&&◌, ◌||◌, nat_le, if◌then◌else◌, List, filter_map, ℤ, neg_ℤ, nat_abs, Option, Some, None, is_some}
 use Rattle.std.specs.List.{list_any, list_all}
 use Rattle.std.specs.Ordering.{int_eq}
 use Rattle.sat_terms.specs.Cubes.{is_among, has_literal}
@@ -26,6 +26,12 @@ is_false entries l = passes (λ e. int_eq l (neg_ℤ e.lit)) (entry_of entries (
 -- The literal is true: it is on the trail.
 abbrev pub is_true : List Entry → ℤ → Bool
 is_true entries l = passes (λ e. int_eq l e.lit) (entry_of entries (nat_abs l))
+
+-- The literal has no value; it is true; it is false.
+abbrev pub IsValue : List Entry → ℤ → Option Bool → Type 0
+IsValue entries l None = entry_of entries (nat_abs l) ≡ None
+IsValue entries l (Some true) = is_true entries l ≡ true
+IsValue entries l (Some false) = is_false entries l ≡ true
 
 -- The literal is l, or false.
 abbrev pub is_or_false : List Entry → ℤ → ℤ → Bool

@@ -1,5 +1,5 @@
 -- What the code keeps while it searches, what each part of a move does, and what there is at the end.
-use Rattle.std.specs.Prelude.{◌≡◌, ℕ, suc, ◌+◌, ◌<◌, ◌≤◌, Bool, true, false, not, ◌&&◌, ◌⊎◌, nat_lt, nat_le, List, [], ◌∷◌, ◌++◌, length, slice_index_or, ℤ, nat_abs, MatchBool}
+use Rattle.std.specs.Prelude.{◌≡◌, ℕ, ◌+◌, ◌<◌, Bool, true, not, ◌&&◌, nat_lt, nat_le, List, [], ◌∷◌, ◌++◌, length, slice_index_or, ℤ, nat_abs, MatchBool}
 use Rattle.std.specs.List.{All, list_all}
 use Rattle.sat_terms.specs.Cubes.{IsCube, is_among}
 use Rattle.search_region.specs.Region.{Closed}

@@ -11,9 +11,13 @@
 //! the code is shown to make these moves.
 #![tactic(auto)]
 
+#[cfg(test)]
+mod checked;
 mod scan;
 mod search;
 mod shrink;
+#[cfg(test)]
+mod tests;
 mod trail;
 
 pub use search::enumerate_plain;

@@ -1,7 +1,7 @@
 //! Scans of clauses under a trail: which clause is false, which is unit; and which variable is free.
 ghost use Rattle.std.specs.Prelude.{◌≡◌, ℕ, ◌<◌, ◌≤◌, MatchOption};
 ghost use Rattle.std.specs.List.{All};
-ghost use Rattle.plain_search.specs.Scans.{HasPlace, IsScan, AreSet, IsFreeShown, IsFreeVariable, IsNextVariable};
+ghost use Rattle.plain_search.specs.Scans.{HasPlace, IsValue, IsScan, AreSet, IsFreeShown, IsFreeVariable, IsNextVariable};
 
 use crate::trail::Trail;
 
@@ -16,6 +16,17 @@ pub(crate) enum Scanned {
     Neither,
 }
 
+/// The value of a literal, where its variable has one.
+fn value(trail: &Trail, lit: i32) -> Option<bool>
+    requires { HasPlace trail.now.places lit }
+    ensures { IsValue trail.now.entries lit result }
+{
+    match trail.get(lit.unsigned_abs()) {
+        Some(entry) => Some(entry.lit == lit),
+        None => None,
+    }
+}
+
 /// What the clause is. A clause that holds a literal and its negation is never false or unit.
 pub(crate) fn scan(trail: &Trail, clause: &[i32]) -> Scanned
     requires { All (HasPlace trail.now.places) clause.now }
@@ -23,12 +34,9 @@ pub(crate) fn scan(trail: &Trail, clause: &[i32]) -> Scanned
 {
     let mut free = None;
     for lit in clause {
-        match trail.get(lit.unsigned_abs()) {
-            Some(entry) => {
-                if entry.lit == *lit {
-                    return Scanned::Neither;
-                }
-            }
+        match value(trail, *lit) {
+            Some(true) => return Scanned::Neither,
+            Some(false) => {}
             None => match free {
                 None => free = Some(*lit),
                 Some(other) => {

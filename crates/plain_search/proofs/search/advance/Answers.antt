@@ -1,11 +1,10 @@
-use Rattle.std.proofs.Common.{◌≡◌, ◌+◌, ◌<◌, ◌≤◌, ◌^◌, true, ℕ, List, length, ◌∷◌, Some, ℤ, pos, neg_ℤ, ◌-ℤ◌, sym, ap, subst, ◌∙◌, arith}
+use Rattle.std.proofs.Common.{◌≡◌, ◌+◌, ◌<◌, ◌≤◌, ◌^◌, true, ℕ, ◌∷◌, Some, ℤ, pos, neg_ℤ, ◌-ℤ◌, sym, ap, subst, ◌∙◌, arith}
 use mir.Syntax.{w32}
 use mir.Val.{to_z, of_z}
 use Rattle.std.proofs.lemmas.Int.{ints}
 use Rattle.plain_search.specs.declared.trail.Cause.TheVariants.{Decided}
-use Rattle.std.specs.List.{list_all, list_any}
 use Rattle.plain_search.specs.Entries.{has_decision, top_level}
-use Rattle.plain_search.specs.Scans.{IsNextVariable, is_true}
+use Rattle.plain_search.specs.Scans.{IsNextVariable}
 use Rattle.plain_search.specs.Searching.{Propagates, CameTo, HasFalseClause, TurnsOverOrEnds, Advances}
 use Rattle.plain_search.proofs.Pictures.{flat_top}
 use Rattle.plain_search.proofs.Work.{levels_few}
@@ -58,7 +57,7 @@ returns-in-Conflict c =
     (TurnsOverOrEnds c.pass.new.trail.entries c.level-level.result c.turn_over_or_end.new.trail.entries)
     (Advances s.formula.variables s.formula.clauses s.shown c.args.trail.now c.turn_over_or_end.new.trail c.args.found.now.items)
     (λ more turned. conflict_advances s.formula.variables s.formula.clauses s.shown c.requires.subject c.args.trail.now c.pass.new.trail c.turn_over_or_end.new.trail c.args.found.now.items more after.0 after.1 wrong
-       (subst (λ k. TurnsOverOrEnds c.pass.new.trail.entries k c.turn_over_or_end.new.trail.entries more) c.level-level.ensures turned) c.turn_over_or_end.ensures.places)
+    (subst (λ k. TurnsOverOrEnds c.pass.new.trail.entries k c.turn_over_or_end.new.trail.entries more) c.level-level.ensures turned) c.turn_over_or_end.ensures.places)
     c.turn_over_or_end.ensures.turned
 
 pub returns-in_ok-decide-in-Some : goal.returns-in_ok-decide-in-Some
@@ -72,8 +71,8 @@ returns-in_ok-decide-in-Some c =
     let quiet = subst (CameTo c.as_slice.result.now c.args.trail.now.entries c.pass.new.trail.entries) c.in-Quiet.is c.in_ok-pass.ensures.outcome in
     let next = subst (λ p. IsNextVariable c.pass.new.trail.entries s.formula.variables p (Some x)) c.as_slice-in-Quiet.ensures c.in-Some.ensures in
     let grown : c.decide.new.self.entries ≡ record { lit = neg_ℤ (pos x); level = top_level c.pass.new.trail.entries + 1; cause = Decided } ∷ c.pass.new.trail.entries
-      = c.in_ok-decide-in-Some.ensures.entries ∙ ap (λ (z : ℤ). record { lit = z; level = top_level c.pass.new.trail.entries + 1; cause = Decided } ∷ c.pass.new.trail.entries) lit in
+    = c.in_ok-decide-in-Some.ensures.entries ∙ ap (λ (z : ℤ). record { lit = z; level = top_level c.pass.new.trail.entries + 1; cause = Decided } ∷ c.pass.new.trail.entries) lit in
     searching_decides s.formula.variables s.formula.clauses s.shown c.requires.subject c.args.trail.now c.decide.new.self c.args.found.now.items x c.requires.searching
-      (subst (λ es. IsNextVariable es s.formula.variables s.shown (Some x)) quiet.0 next)
-      (subst (λ es. c.decide.new.self.entries ≡ record { lit = neg_ℤ (pos x); level = top_level es + 1; cause = Decided } ∷ es) quiet.0 grown)
-      (c.in_ok-decide-in-Some.ensures.places ∙ c.in_ok-pass.ensures.places)
+    (subst (λ es. IsNextVariable es s.formula.variables s.shown (Some x)) quiet.0 next)
+    (subst (λ es. c.decide.new.self.entries ≡ record { lit = neg_ℤ (pos x); level = top_level es + 1; cause = Decided } ∷ es) quiet.0 grown)
+    (c.in_ok-decide-in-Some.ensures.places ∙ c.in_ok-pass.ensures.places)

@@ -1,4 +1,3 @@
-use Rattle.std.proofs.Common.{ℕ}
 use Rattle.plain_search.specs.Pictures.{work}
 use Rattle.plain_search.specs.Searching.{IsSearching}
 use Rattle.plain_search.proofs.search.enumerate_plain.Given as goal

@@ -1,4 +1,4 @@
-use Rattle.std.proofs.Common.{◌≡◌, ◌++◌, ◌∷◌, [], ◌<◌, ℕ, List, Bool, sym, ap, ap₂, subst, subst₂, ◌∙◌}
+use Rattle.std.proofs.Common.{◌≡◌, ◌++◌, ◌∷◌, [], ℕ, sym, ap, ap₂, ◌∙◌}
 use Rattle.std.specs.Prelude.{nat_le}
 use Rattle.plain_search.specs.Scans.{is_enough, cube_upto}
 use Rattle.plain_search.specs.Searching.{TurnsOverOrEnds, Advances}
@@ -10,7 +10,7 @@ turn_over_or_end-requires c =
     let s = c.args.subject.now in
     let level : ℕ = c.least_level-level.result in
     let least : (b : ℕ) → is_enough b c.args.trail.now.entries s.shown s.formula.clauses ≡ nat_le level b
-      = λ b. sym (ap₂ (is_enough b c.args.trail.now.entries) c.as_slice-shown.ensures c.as_slice.ensures) ∙ c.least_level-level.ensures b in
+    = λ b. sym (ap₂ (is_enough b c.args.trail.now.entries) c.as_slice-shown.ensures c.as_slice.ensures) ∙ c.least_level-level.ensures b in
     model_decision s.formula.variables s.formula.clauses s.shown c.requires.subject c.args.trail.now c.args.found.now.items level c.requires.searching least
 
 pub returns : goal.returns
@@ -18,7 +18,7 @@ returns c =
     let s = c.args.subject.now in
     let level : ℕ = c.least_level-level.result in
     let least : (b : ℕ) → is_enough b c.args.trail.now.entries s.shown s.formula.clauses ≡ nat_le level b
-      = λ b. sym (ap₂ (is_enough b c.args.trail.now.entries) c.as_slice-shown.ensures c.as_slice.ensures) ∙ c.least_level-level.ensures b in
+    = λ b. sym (ap₂ (is_enough b c.args.trail.now.entries) c.as_slice-shown.ensures c.as_slice.ensures) ∙ c.least_level-level.ensures b in
     let cube = c.in_ok-cube.ensures ∙ ap (cube_upto level c.args.trail.now.entries) c.as_slice-shown.ensures in
     let grown = c.in_ok-push.ensures.items ∙ ap (λ x. c.args.found.now.items ++ x ∷ []) cube in
     ok_weaker c.turn_over_or_end.result

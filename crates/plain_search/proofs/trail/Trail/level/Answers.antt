@@ -1,4 +1,4 @@
-use Rattle.std.proofs.Common.{◌≡◌, ◌-◌, ◌<◌, ap, ◌∙◌, sym, length, get_or}
+use Rattle.std.proofs.Common.{ap, ◌∙◌, sym, length}
 use Rattle.std.proofs.lemmas.Bool.{ltb-true}
 use Rattle.plain_search.specs.declared.trail.Entry.{Entry}
 use Rattle.plain_search.specs.Entries.{TrailView, newest, top_level}

@@ -1,10 +1,8 @@
-use Rattle.std.proofs.Common.{◌≡◌, ◌<◌, ap, ◌∙◌, rules, arith, None, sym, subst, ◌∷◌, ◌++◌, [], length, set}
-use Rattle.std.specs.Prelude.{nat_abs}
+use Rattle.std.proofs.Common.{ap, ◌∙◌, rules, arith, sym, subst}
 use mir.Syntax.{w32}
 use mir.Val.{SFits}
-use Rattle.std.proofs.lemmas.Bool.{and_parts, ltb-true}
 use Rattle.sat_terms.proofs.Machine.{nat_abs-bits}
-use Rattle.plain_search.specs.Entries.{entry_of, newest, IsTable, TrailView}
+use Rattle.plain_search.specs.Entries.{newest, IsTable, TrailView}
 use Rattle.plain_search.proofs.Entries.{newest-push, table_pop, table_room, table_freed}
 use Rattle.plain_search.proofs.trail.Trail.pop.Goals as goal
 

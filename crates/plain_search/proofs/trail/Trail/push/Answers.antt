@@ -1,4 +1,4 @@
-use Rattle.std.proofs.Common.{◌≡◌, ◌<◌, ap, ◌∙◌, rules, arith, Some, sym, subst, ◌∷◌, length, set}
+use Rattle.std.proofs.Common.{◌<◌, ap, ◌∙◌, rules, Some, sym, subst, ◌∷◌, length, set}
 use Rattle.std.specs.Prelude.{nat_abs}
 use mir.Syntax.{w32}
 use mir.Val.{SFits}
@@ -17,7 +17,7 @@ invariant_of-self-2 c =
     let room : nat_abs c.args.entry.lit < length c.self.inside.given.items = subst (λ n. nat_abs c.args.entry.lit < n) (sym wide) c.requires.room in
     subst (IsTable (set c.self.inside.given.items c.unsigned_abs.result (Some c.args.entry))) (sym grown)
     (table_push c.self.inside.given.items (newest c.self.inside.entries.items) c.args.entry c.unsigned_abs.result c.self.invariant same room
-     (ap (λ es. entry_of es (nat_abs c.args.entry.lit)) before ∙ c.requires.free))
+    (ap (λ es. entry_of es (nat_abs c.args.entry.lit)) before ∙ c.requires.free))
 
 pub returns-clause-entries : goal.returns-clause-entries
 returns-clause-entries c = ap newest c.in_ok-push.ensures.items ∙ newest-push c.self.inside.entries.items c.args.entry ∙ ap (λ (v : TrailView). c.args.entry ∷ v.entries) c.self.view_is

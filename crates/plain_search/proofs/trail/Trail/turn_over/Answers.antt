@@ -1,4 +1,4 @@
-use Rattle.std.proofs.Common.{◌≡◌, ◌++◌, ◌∷◌, [], true, false, List, refl, sym, ap, subst, ◌∙◌, append_assoc}
+use Rattle.std.proofs.Common.{◌≡◌, ◌++◌, ◌∷◌, [], true, false, refl, sym, ap, subst, ◌∙◌, append_assoc}
 use Rattle.std.proofs.lemmas.Bool.{both_ways}
 use Rattle.plain_search.specs.Entries.{has_decision, is_decision}
 use Rattle.plain_search.proofs.Entries.{decision_stays}
@@ -10,10 +10,10 @@ loop-entry-preserved c =
     let gone = c.loop-entry.invariant.gone in
     record {
       there = decision_stays c.args.level c.loop-entry.self.entries c.in-Some.entry c.pop.new.self.entries c.in-Some.ensures.entries c.loop-entry.invariant.there
-        (λ e k. elim c.else-is_decision.branch [
-           else-is_decision-via-then-is_decision+else-entry-level w ↦ w.if-entry-level.false k
-         | else-is_decision-via-else-is_decision w ↦ both_ways (is_decision c.in-Some.entry.cause) (sym c.is_decision.ensures ∙ w.if-is_decision.false) e
-         ]);
+          (λ e k. elim c.else-is_decision.branch [
+            | else-is_decision-via-then-is_decision+else-entry-level w ↦ w.if-entry-level.false k
+            | else-is_decision-via-else-is_decision w ↦ both_ways (is_decision c.in-Some.entry.cause) (sym c.is_decision.ensures ∙ w.if-is_decision.false) e
+          ]);
       gone = (gone.0 ++ c.in-Some.entry ∷ [], gone.1 ∙ ap (λ rest. gone.0 ++ rest) c.in-Some.ensures.entries ∙ sym (append_assoc gone.0 (c.in-Some.entry ∷ []) c.pop.new.self.entries));
       wide = c.in-Some.ensures.places ∙ c.loop-entry.invariant.wide;
     }
