@@ -69,4 +69,9 @@ for example in examples/*.cnf; do
         echo "skipped: no python3 here to check the listing of $example"
     fi
 done
+if command -v python3 > /dev/null; then
+    tools/random_formulas.py 200 || wrong=1
+else
+    echo 'skipped: no python3 here to check random formulas'
+fi
 exit "$wrong"

@@ -11,9 +11,9 @@ use Rattle.sat_terms.specs.Subjects.{IsSubject, IsVariableList}
 use Rattle.search_region.specs.Trail.{Kind, Item, depth, seen, upto, false_by, turn_over}
 use Rattle.search_region.specs.Steady.{Steady}
 use Rattle.search_region.specs.Moves.{Running, is_false_upto, is_met, keeps_flips, reaches, are_named, CubeOf}
-use Rattle.search_region.proofs.Literals.{all_weaker, nat_abs_neg, same_variable, test_from_same}
+use Rattle.search_region.proofs.Literals.{all_weaker, same_variable, test_from_same}
 use Rattle.search_region.proofs.Agree.{levels_within}
-use Rattle.plain_search.proofs.Scans.{entry_variable}
+use Rattle.plain_search.proofs.Scans.{entry_variable, all_among}
 use Rattle.search_region.proofs.Moves.{running_decide, running_implied, running_conflict, running_found, clause_follows}
 use Rattle.search_region.proofs.Closed.{closed_dead, closed_found}
 use Rattle.search_region.proofs.Back.{steady_older}
@@ -29,6 +29,7 @@ use Rattle.plain_search.proofs.Passes.{All-literal}
 use Rattle.plain_search.proofs.Pictures.{assigned_entry, false_upto, enough_same, cube_of, flat_top, decision_there, flat_older, flat_turn_over}
 use Rattle.plain_search.proofs.Shrinks.{cube_rises, cube_over}
 use Rattle.plain_search.proofs.Work.{work_push, work_flip}
+use Rattle.sat_terms.proofs.CubeLemmas.{nat_abs-neg}
 
 -- ---- what a subject is
 
@@ -136,7 +137,7 @@ module _ (n : ℕ) (f : List (List ℤ)) (p : List ℕ) (s : IsSubject n f p) wh
       e = record { lit = neg_ℤ (pos x); level = top_level v.entries + 1; cause = Decided }
 
       same : nat_abs (neg_ℤ (pos x)) ≡ x
-      same = nat_abs_neg (pos x)
+      same = nat_abs-neg (pos x)
 
       named : 0 < nat_abs (neg_ℤ (pos x))
       named = rw same next.0
@@ -146,13 +147,6 @@ module _ (n : ℕ) (f : List (List ℤ)) (p : List ℕ) (s : IsSubject n f p) wh
 
       free : entry_of v.entries (nat_abs (neg_ℤ (pos x))) ≡ None
       free = ap (entry_of v.entries) same ∙ next.2
-
-      all_among : (q : ℕ → Bool) (r : List ℕ) → list_all q r ≡ true → (y : ℕ) → is_among r y ≡ true → q y ≡ true
-      all_among q [] g y k = cc
-      all_among q (z ∷ r) g y k = elim (or_cases (nat_eq y z) (is_among r y) k) [
-        | inl here ↦ ap q (eqb-true y z here) ∙ (and_parts (q z) (list_all q r) g).0
-        | inr rest ↦ all_among q r (and_parts (q z) (list_all q r) g).1 y rest
-      ]
 
   -- ---- turning a decision over
 
@@ -165,11 +159,11 @@ module _ (n : ℕ) (f : List (List ℤ)) (p : List ℕ) (s : IsSubject n f p) wh
     searching = record {
       running = subst (λ trail. Running f (is_among p) 0 [] trail more) (sym now) running;
       flat = subst (λ es. is_flat (picture f es) ≡ true) (sym t.now) (and_from (nat_eq (level - 1) (depth (picture f t.older))) (is_flat (picture f t.older)) (eq-eqb (level - 1) (depth (picture f t.older)) below) (and_parts (nat_eq t.decision.level (depth (picture f (t.decision ∷ t.older)))) (is_flat (picture f t.older)) (flat_older f (is_among p) (picture f t.newer) (item_of f t.decision ∷ picture f t.older) flat)).1);
-      within = subst (λ es. list_all (is_within n) es ≡ true) (sym t.now) (and_from (is_within n e) (list_all (is_within n) t.older) (rw (nat_abs_neg t.decision.lit) inside.0) inside.1);
+      within = subst (λ es. list_all (is_within n) es ≡ true) (sym t.now) (and_from (is_within n e) (list_all (is_within n) t.older) (rw (nat_abs-neg t.decision.lit) inside.0) inside.1);
       places = wide ∙ h.places;
       cubes = cubes;
     };
-    less = subst₂ (λ a b. work n a < work n b) (sym t.now) (sym t.was) (work_flip n t.newer t.decision e t.older (ap is_decision t.decided) refl (nat_abs_neg t.decision.lit));
+    less = subst₂ (λ a b. work n a < work n b) (sym t.now) (sym t.was) (work_flip n t.newer t.decision e t.older (ap is_decision t.decided) refl (nat_abs-neg t.decision.lit));
   }
     where
       e : Entry

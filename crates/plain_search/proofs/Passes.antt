@@ -5,7 +5,6 @@ use Rattle.std.specs.Ordering.{int_eq}
 use Rattle.std.proofs.lemmas.Bool.{and_from, or_cases, not_from_false}
 use Rattle.std.proofs.lemmas.List.Elements.{All-head, All-tail}
 use Rattle.sat_terms.specs.Cubes.{has_literal}
-use Rattle.search_region.proofs.Literals.{same_from_test}
 use Rattle.std.proofs.lemmas.List.{take_more}
 use Rattle.std.proofs.lemmas.List.Folds.{list_all-append}
 use Rattle.plain_search.specs.declared.trail.Cause.TheVariants.{Implied}
@@ -15,6 +14,7 @@ use Rattle.plain_search.specs.declared.search.Passed.TheVariants.{Conflict, Move
 use Rattle.plain_search.specs.Entries.{top_level}
 use Rattle.plain_search.specs.Scans.{IsUnit, is_false}
 use Rattle.plain_search.specs.Searching.{IsUnitEntry, Propagates}
+use Rattle.sat_terms.proofs.CubeLemmas.{int_eq-true}
 
 -- what a pass has come to after k clauses
 abbrev pub HasComeTo : List (List ℤ) → List Entry → List Entry → ℕ → Passed → Type 0
@@ -58,6 +58,6 @@ pub All-literal : (P : ℤ → Type 0) (c : List ℤ) (l : ℤ) → All P c → 
 All-literal P [] l all h = cc
 All-literal P (m ∷ c) l all h =
     elim (or_cases (int_eq l m) (has_literal c l) h) [
-      | inl same ↦ subst P (sym (same_from_test l m same)) (All-head P m c all)
+      | inl same ↦ subst P (sym (int_eq-true l m same)) (All-head P m c all)
       | inr rest ↦ All-literal P c l (All-tail P m c all) rest
     ]

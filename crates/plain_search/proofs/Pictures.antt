@@ -10,7 +10,7 @@ use Rattle.sat_terms.specs.Cubes.{is_among}
 use Rattle.search_region.specs.Trail.{Kind, Item, depth, is_assigned, seen, seen_upto, upto, false_by, back, flip, turn_over, is_flipped}
 use Rattle.search_region.specs.Steady.{Steady, FineKind, FineDecided}
 use Rattle.search_region.specs.Moves.{is_kept, has_pair, is_met, keeps_flips, CubeOf}
-use Rattle.search_region.proofs.Literals.{same_from_test, all_weaker}
+use Rattle.search_region.proofs.Literals.{all_weaker}
 use Rattle.search_region.proofs.Agree.{levels_within}
 use Rattle.search_region.proofs.Back.{depth_rises, steady_older, back_split}
 use Rattle.search_region.proofs.Flip.{fine_decided}
@@ -22,8 +22,9 @@ use Rattle.plain_search.specs.declared.trail.Entry.{Entry}
 use Rattle.plain_search.specs.Entries.{entry_of, is_decision, is_flip, top_level, has_decision}
 use Rattle.plain_search.specs.Pictures.{kind_of, item_of, picture, is_flat}
 use Rattle.plain_search.specs.Scans.{passes, passes_if, is_false, flips_within, holds_upto, meets_upto, is_enough, literal_upto, cube_upto}
-use Rattle.plain_search.proofs.Scans.{entry_variable}
+use Rattle.plain_search.proofs.Scans.{entry_variable, all_among}
 use Rattle.plain_search.proofs.Shrinks.{cube_over}
+use Rattle.sat_terms.proofs.CubeLemmas.{int_eq-true}
 
 -- a test of the picture's items is one of the entries
 pub any_picture : (f : List (List ℤ)) (p : Item → Bool) (entries : List Entry) → list_any p (picture f entries) ≡ list_any (λ e. p (item_of f e)) entries
@@ -115,13 +116,6 @@ module _ (f : List (List ℤ)) (shown : ℕ → Bool) where
           ])
           (there older z.1 (all_weaker (λ v. passes_if test (entry_of (e ∷ older) v)) (λ v. passes_if test (entry_of older v)) fewer p h))
         where
-          all_among : (q : ℕ → Bool) (r : List ℕ) → list_all q r ≡ true → (v : ℕ) → is_among r v ≡ true → q v ≡ true
-          all_among q [] g v k = cc
-          all_among q (w ∷ r) g v k = elim (or_cases (nat_eq v w) (is_among r v) k) [
-            | inl same ↦ ap q (eqb-true v w same) ∙ (and_parts (q w) (list_all q r) g).0
-            | inr rest ↦ all_among q r (and_parts (q w) (list_all q r) g).1 v rest
-          ]
-
           fewer : (v : ℕ) → passes_if test (entry_of (e ∷ older) v) ≡ true → passes_if test (entry_of older v) ≡ true
           fewer v k = elim (cases_Bool (nat_eq v (nat_abs e.lit))) [
             | inl same ↦ ap (passes_if test) (ap (entry_of older) (eqb-true v (nat_abs e.lit) same) ∙ entry_fresh e older z)
@@ -151,7 +145,7 @@ module _ (f : List (List ℤ)) (p : List ℕ) where
   kept_same b entries l s =
       any_picture f (λ i. int_eq l i.lit && (not (seen (is_among p) i) || nat_le i.level b)) entries
       ∙ any_entry f (is_among p) (λ e. int_eq l e.lit && (not (is_among p (nat_abs e.lit)) || nat_le e.level b)) (nat_abs l)
-      (λ e h. ap nat_abs (sym (same_from_test l e.lit (and_parts (int_eq l e.lit) (not (is_among p (nat_abs e.lit)) || nat_le e.level b) h).0))) entries s
+      (λ e h. ap nat_abs (sym (int_eq-true l e.lit (and_parts (int_eq l e.lit) (not (is_among p (nat_abs e.lit)) || nat_le e.level b) h).0))) entries s
       ∙ at_entry (entry_of entries (nat_abs l)) refl
     where
       at_entry : (o : Option Entry) → entry_of entries (nat_abs l) ≡ o → passes (λ e. int_eq l e.lit && (not (is_among p (nat_abs e.lit)) || nat_le e.level b)) (entry_of entries (nat_abs l)) ≡ holds_upto b entries p l

@@ -2,15 +2,15 @@
 use Rattle.std.proofs.Common.{◌≡◌, ℕ, ◌+◌, ◌<◌, Bool, true, false, ◌&&◌, ◌||◌, nat_eq, ℤ, neg_ℤ, nat_abs, List, [], ◌∷◌, ◌++◌, length, get_or, take, Option, Some, None, refl, sym, ap, ◌∙◌, inl, inr}
 use Rattle.std.specs.List.{list_all}
 use Rattle.std.specs.Ordering.{int_eq}
-use Rattle.std.proofs.lemmas.Bool.{and_from, or_left, or_right, cases_Bool, eqb-true, false_from_ne_true}
+use Rattle.std.proofs.lemmas.Bool.{and_parts, or_cases, and_from, or_left, or_right, cases_Bool, eqb-true, false_from_ne_true}
 use Rattle.std.proofs.lemmas.List.{take_more}
 use Rattle.std.proofs.lemmas.List.Folds.{list_all-append, list_any-append, list_all_at}
-use Rattle.sat_terms.specs.Cubes.{has_literal}
-use Rattle.search_region.proofs.Literals.{same_variable, test_from_same, same_from_test, all_weaker}
-use Rattle.search_region.proofs.Found.{not_own_negation}
+use Rattle.sat_terms.specs.Cubes.{has_literal, is_among}
+use Rattle.search_region.proofs.Literals.{same_variable, test_from_same, all_weaker}
 use Rattle.plain_search.specs.declared.trail.Entry.{Entry}
 use Rattle.plain_search.specs.Entries.{entry_of}
 use Rattle.plain_search.specs.Scans.{is_false, is_or_false, IsUnit, IsValue}
+use Rattle.sat_terms.proofs.CubeLemmas.{int_eq-true, neg-not_same}
 
 -- what a scan has told of the literals that it saw
 abbrev pub SoFar : List Entry → List ℤ → Option ℤ → Type 0
@@ -37,7 +37,7 @@ false_from_other entries l e h other =
 -- a literal on the trail is not
 pub true_not_false : (entries : List Entry) (l : ℤ) (e : Entry) → 0 < nat_abs l → entry_of entries (nat_abs l) ≡ Some e → e.lit ≡ l → is_false entries l ≡ false
 true_not_false entries l e named h same =
-    rw h (false_from_ne_true (int_eq l (neg_ℤ e.lit)) λ b. not_own_negation l named (same_from_test l (neg_ℤ e.lit) b ∙ ap neg_ℤ same))
+    rw h (false_from_ne_true (int_eq l (neg_ℤ e.lit)) λ b. neg-not_same l named (sym (int_eq-true l (neg_ℤ e.lit) b ∙ ap neg_ℤ same)))
 
 pub free_not_false : (entries : List Entry) (l : ℤ) → entry_of entries (nat_abs l) ≡ None → is_false entries l ≡ false
 free_not_false entries l h = rw h refl
@@ -80,3 +80,12 @@ neither_from entries c i d h e = list_all_at (is_false entries) c i d h e
 pub value_from : (entries : List Entry) (l : ℤ) (e : Entry) (b : Bool) → entry_of entries (nat_abs l) ≡ Some e → (b ≡ true → e.lit ≡ l) → (b ≡ false → e.lit ≡ l → ⊥) → IsValue entries l (Some b)
 value_from entries l e true h same other = rw h (test_from_same l e.lit (sym (same refl)))
 value_from entries l e false h same other = false_from_other entries l e h (other refl)
+
+-- what a test says of each of the variables
+pub all_among : (test : ℕ → Bool) (p : List ℕ) → list_all test p ≡ true → (v : ℕ) → is_among p v ≡ true → test v ≡ true
+all_among test [] h v k = cc
+all_among test (w ∷ p) h v k =
+    elim (or_cases (nat_eq v w) (is_among p v) k) [
+      | inl same ↦ ap test (eqb-true v w same) ∙ (and_parts (test w) (list_all test p) h).0
+      | inr rest ↦ all_among test p (and_parts (test w) (list_all test p) h).1 v rest
+    ]

@@ -7,7 +7,8 @@ use Rattle.sat_terms.specs.Literals.{lit_true}
 use Rattle.sat_terms.specs.Truth.{sat_clause}
 use Rattle.search_region.specs.Trail.{Item, Kind, Assumed, Decided, Flipped, Turned, Implied, depth, agrees, upto, false_by}
 use Rattle.search_region.specs.Steady.{Steady, Fine, FineKind}
-use Rattle.search_region.proofs.Literals.{lit_true_neg, same_from_test}
+use Rattle.sat_terms.proofs.Disjoint.{lit_true-neg}
+use Rattle.sat_terms.proofs.CubeLemmas.{int_eq-true}
 
 -- a picked literal of the trail's newest item is true
 pub agree_head : (pick : Item → Bool) (t : ℕ → Bool) (i : Item) (older : List Item) → agrees pick t (i ∷ older) ≡ true → pick i ≡ true → lit_true t i.lit ≡ true
@@ -73,7 +74,7 @@ module _ (f : List (List ℤ)) (shown : ℕ → Bool) where
       elim (or_cases (int_eq l (neg_ℤ i.lit) && nat_le i.level k) (false_by k older l) h) [
         | inl e ↦
             let (same, low) = and_parts (int_eq l (neg_ℤ i.lit)) (nat_le i.level k) e in
-            ap (lit_true t) (same_from_test l (neg_ℤ i.lit) same) ∙ lit_true_neg t i.lit s.0.named ∙ ap not (agree_head (upto k) t i older a low)
+            ap (lit_true t) (int_eq-true l (neg_ℤ i.lit) same) ∙ lit_true-neg t i.lit s.0.named ∙ ap not (agree_head (upto k) t i older a low)
         | inr e ↦ false_literal k t l older s.1 (agree_tail (upto k) t i older a) e
       ]
 
@@ -84,7 +85,7 @@ module _ (f : List (List ℤ)) (shown : ℕ → Bool) where
       let (now, rest) = and_parts (int_eq l x || false_by k older l) (list_all (λ m. int_eq m x || false_by k older m) c) r in
       elim (or_cases (lit_true t l) (sat_clause t c) h) [
         | inl e ↦ elim (or_cases (int_eq l x) (false_by k older l) now) [
-          | inl same ↦ ap (lit_true t) (sym (same_from_test l x same)) ∙ e
+          | inl same ↦ ap (lit_true t) (sym (int_eq-true l x same)) ∙ e
           | inr wrong ↦ absurd (both_ways (lit_true t l) (false_literal k t l older s a wrong) e)
         ]
         | inr e ↦ reason_literal k t x older s a c e rest

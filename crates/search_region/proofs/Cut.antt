@@ -9,11 +9,12 @@ use Rattle.search_region.specs.Trail.{Item, Kind, Assumed, Decided, Flipped, Tur
 use Rattle.search_region.specs.Steady.{Steady, Fine, FineKind, IsFull, Follows}
 use Rattle.search_region.specs.Region.{cut, leaves_at}
 use Rattle.search_region.specs.Moves.{is_false_upto, CubeOf}
-use Rattle.search_region.proofs.Literals.{lit_true_neg, nat_abs_neg}
 use Rattle.search_region.proofs.Agree.{agree_head, agree_tail, agree_more, agree_fewer, agree_among, agree_all, levels_within}
 use Rattle.search_region.proofs.Heart.{heart, conflict}
 use Rattle.search_region.proofs.Back.{back_split, depth_back, steady_older, steady_back, newer_forced}
 use Rattle.search_region.proofs.Flip.{fine_decided, chosen_newer, agree_older, assigned_newer, cut_full}
+use Rattle.sat_terms.proofs.Disjoint.{lit_true-neg}
+use Rattle.sat_terms.proofs.CubeLemmas.{nat_abs-neg}
 
 pub same_bools : (a b : Bool) → (a ≡ true → b ≡ true) → (b ≡ true → a ≡ true) → a ≡ b
 same_bools true b there back = sym (there refl)
@@ -126,16 +127,16 @@ module _ (f : List (List ℤ)) (shown : ℕ → Bool) where
         full v h = assigned_newer v (d ∷ []) older ((fine_decided f shown d older fine e).late hides v h)
 
         stays : leaves_at shown t (flip (depth older) d) (back (depth older) (newer ++ d ∷ older)) ≡ false
-        stays = rw (nat_abs_neg d.lit, hides) refl
+        stays = rw (nat_abs-neg d.lit, hides) refl
 
     module _ (shows : seen shown d ≡ true) where
       -- a solution in the decision's side leaves at the turned decision
       turned_leaves : (t : ℕ → Bool) → sat f t ≡ true → lit_true t d.lit ≡ true → agrees (seen shown) t older ≡ true → cut shown t older ≡ false → leaves_at shown t (flip (depth older) d) (back (depth older) (newer ++ d ∷ older)) ≡ true
       turned_leaves t m now a stays =
           and_from (true && seen shown (flip (depth older) d)) (not (lit_true t (neg_ℤ d.lit)) && agrees (seen shown) t (back (depth older) (newer ++ d ∷ older)))
-          (rw (nat_abs_neg d.lit) shows)
+          (rw (nat_abs-neg d.lit) shows)
           (and_from (not (lit_true t (neg_ℤ d.lit))) (agrees (seen shown) t (back (depth older) (newer ++ d ∷ older)))
-          (rw (lit_true_neg t d.lit fine.named, now) refl)
+          (rw (lit_true-neg t d.lit fine.named, now) refl)
           (agree_all f shown (depth older) (seen shown) t (back (depth older) (newer ++ d ∷ older)) steady low
           (heart f shown (depth older) t (back (depth older) (newer ++ d ∷ older)) steady m choices (cut_kept t ∙ stays))))
         where
@@ -194,7 +195,7 @@ module _ (f : List (List ℤ)) (shown : ℕ → Bool) where
           parts = and_parts (not (lit_true t (neg_ℤ d.lit))) (agrees (seen shown) t (back (depth older) (newer ++ d ∷ older))) (and_parts (true && seen shown (flip (depth older) d)) (not (lit_true t (neg_ℤ d.lit)) && agrees (seen shown) t (back (depth older) (newer ++ d ∷ older))) here).1
 
           now : lit_true t d.lit ≡ true
-          now = true_from_ne_false (lit_true t d.lit) λ wrong. both_ways (lit_true t (neg_ℤ d.lit)) (not-true (lit_true t (neg_ℤ d.lit)) parts.0) (lit_true_neg t d.lit fine.named ∙ not_from_false (lit_true t d.lit) wrong)
+          now = true_from_ne_false (lit_true t d.lit) λ wrong. both_ways (lit_true t (neg_ℤ d.lit)) (not-true (lit_true t (neg_ℤ d.lit)) parts.0) (lit_true-neg t d.lit fine.named ∙ not_from_false (lit_true t d.lit) wrong)
 
           before : agrees (seen shown) t older ≡ true
           before = agree_older (seen shown) t (back (depth older) newer) older (subst (λ rest. agrees (seen shown) t rest ≡ true) split parts.1)

@@ -10,13 +10,13 @@ use Rattle.search_region.specs.Steady.{Steady, Fine, FineKind}
 use Rattle.search_region.specs.Cubes.{hit, hits, Good, over, Fits}
 use Rattle.search_region.specs.Region.{cut, leaves_at, front, root, is_open, untried, left_open, Closed}
 use Rattle.search_region.specs.Moves.{Running}
-use Rattle.search_region.proofs.Literals.{lit_true_neg}
 use Rattle.search_region.proofs.Agree.{agree_head, agree_tail, agree_more, agree_among, agree_all, levels_within}
 use Rattle.search_region.proofs.Heart.{heart, forced_true, flipped_true}
 use Rattle.search_region.proofs.Cut.{chosen_seen, or_false}
-use Rattle.search_region.proofs.Hits.{hits_push, hits_same, holds_same, lit_same}
+use Rattle.search_region.proofs.Hits.{lit_same, hits_push, hits_same, holds_same}
 use Rattle.search_region.proofs.Region.{cases_le, root_whole, root_above}
 use Rattle.search_region.proofs.Found.{front_true}
+use Rattle.sat_terms.proofs.Disjoint.{lit_true-neg}
 
 -- the item's literal stands in the prefix that the search is in
 abbrev pub in_front : (ℕ → Bool) → Item → Bool
@@ -38,7 +38,7 @@ hit_small t q = elim (cases_Bool (holds t q)) [ inl e ↦ rw e (omega arith) | i
 -- a prefix is the two that a literal splits it into
 pub hit_split : (t : ℕ → Bool) (q : List ℤ) (l : ℤ) → 0 < nat_abs l → hit t (q ++ l ∷ []) + hit t (q ++ neg_ℤ l ∷ []) ≡ hit t q
 hit_split t q l named =
-    rw (hit_more t q l, hit_more t q (neg_ℤ l), lit_true_neg t l named)
+    rw (hit_more t q l, hit_more t q (neg_ℤ l), lit_true-neg t l named)
     (elim (lit_true t l) as (λ b. cond b (hit t q) 0 + cond (not b) (hit t q) 0 ≡ hit t q) [ true ↦ omega arith | false ↦ omega arith ])
 
 pub hit_less : (t : ℕ → Bool) (q : List ℤ) (l : ℤ) → hit t (q ++ l ∷ []) ≤ hit t q

@@ -7,10 +7,11 @@ use Rattle.search_region.specs.Trail.{Item, Kind, Assumed, Decided, Flipped, Tur
 use Rattle.search_region.specs.Steady.{Steady, Fine, FineKind, FineDecided, IsFull, NoneBeside, Follows}
 use Rattle.search_region.specs.Region.{cut, leaves_at}
 use Rattle.search_region.specs.Moves.{is_false_upto}
-use Rattle.search_region.proofs.Literals.{lit_true_neg, nat_abs_neg}
 use Rattle.search_region.proofs.Agree.{agree_head, agree_tail, agree_more, agree_fewer}
 use Rattle.search_region.proofs.Heart.{conflict}
 use Rattle.search_region.proofs.Back.{back_split, depth_back, depth_rises, steady_older, steady_back, unassigned_newer, none_in_filter}
+use Rattle.sat_terms.proofs.Disjoint.{lit_true-neg}
+use Rattle.sat_terms.proofs.CubeLemmas.{nat_abs-neg}
 
 -- an assignment that agrees with all that stands by no clause never leaves the trail
 pub never_cut : (shown t : ℕ → Bool) (trail : List Item) → agrees branches t trail ≡ true → cut shown t trail ≡ false
@@ -79,7 +80,7 @@ module _ (f : List (List ℤ)) (shown : ℕ → Bool) where
   -- a conflict on a hidden decision leaves nothing beside what is turned over
   pub none_beside : (newer : List Item) (d : Item) (older : List Item) (c : List ℤ) → Steady f shown (newer ++ d ∷ older) → d.kind ≡ Decided → seen shown d ≡ false → Follows f c → is_false_upto d.level (newer ++ d ∷ older) c ≡ true → NoneBeside f (flip (depth older) d) (back (depth older) (newer ++ d ∷ older))
   none_beside newer d older c s e hides follows wrong t m a =
-      lit_true_neg t d.lit fine.named ∙ not_from_false (lit_true t d.lit) (false_from_ne_true (lit_true t d.lit) λ now.
+      lit_true-neg t d.lit fine.named ∙ not_from_false (lit_true t d.lit) (false_from_ne_true (lit_true t d.lit) λ now.
       conflict f shown d.level c t (newer ++ d ∷ older) s follows wrong m
       (chosen_newer t newer d older s e decided.opens (agree_more (chosen_upto d.level) t d older (λ b. now) (agree_fewer branches (chosen_upto d.level) chosen_branch t older old)))
       (cut_full t newer (d ∷ older) s full ∙ or_from (cut shown t older) (leaves_at shown t d older) (never_cut shown t older old) (rw e refl)))
@@ -110,12 +111,12 @@ module _ (f : List (List ℤ)) (shown : ℕ → Bool) where
   pub steady_flip : (newer : List Item) (d : Item) (older : List Item) → Steady f shown (newer ++ d ∷ older) → d.kind ≡ Decided → (seen shown d ≡ false → NoneBeside f (flip (depth older) d) (back (depth older) (newer ++ d ∷ older))) → Steady f shown (turn_over newer d older)
   steady_flip newer d older s e spent = (
     record {
-      named = rw (nat_abs_neg d.lit) fine.named;
-      fresh = rw (nat_abs_neg d.lit, split) (list_any-append (λ j. nat_eq (nat_abs d.lit) (nat_abs j.lit)) (back (depth older) newer) older ∙ or_from (is_assigned (nat_abs d.lit) (back (depth older) newer)) (is_assigned (nat_abs d.lit) older) gone fine.fresh);
+      named = rw (nat_abs-neg d.lit) fine.named;
+      fresh = rw (nat_abs-neg d.lit, split) (list_any-append (λ j. nat_eq (nat_abs d.lit) (nat_abs j.lit)) (back (depth older) newer) older ∙ or_from (is_assigned (nat_abs d.lit) (back (depth older) newer)) (is_assigned (nat_abs d.lit) older) gone fine.fresh);
       kinds = record {
         stays = (let now = depth_back f shown (depth older) (newer ++ d ∷ older) s in let up = depth_rises f shown newer (d ∷ older) s in let on = above in let opens = decided.opens in omega arith);
-        late = λ hides v h. rw split (assigned_newer v (back (depth older) newer) older (decided.late (subst (λ n. shown n ≡ false) (nat_abs_neg d.lit) hides) v h));
-        spent = λ hides. spent (subst (λ n. shown n ≡ false) (nat_abs_neg d.lit) hides);
+        late = λ hides v h. rw split (assigned_newer v (back (depth older) newer) older (decided.late (subst (λ n. shown n ≡ false) (nat_abs-neg d.lit) hides) v h));
+        spent = λ hides. spent (subst (λ n. shown n ≡ false) (nat_abs-neg d.lit) hides);
       };
     },
     steady_back f shown (depth older) (newer ++ d ∷ older) s,

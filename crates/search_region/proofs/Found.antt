@@ -1,5 +1,5 @@
 -- A found cube: it holds good assignments alone, and none that has left the trail.
-use Rattle.std.proofs.Common.{◌≡◌, ℕ, zero, suc, ◌<◌, ◌≤◌, Bool, true, false, not, ◌&&◌, ◌||◌, cond, nat_le, nat_lt, nat_eq, ℤ, pos, negsuc, neg_ℤ, nat_abs, List, [], ◌∷◌, ◌++◌, refl, sym, ap, subst, ◌∙◌, ◌⊎◌, inl, inr, arith}
+use Rattle.std.proofs.Common.{◌≡◌, ℕ, suc, ◌<◌, ◌≤◌, Bool, true, false, not, ◌&&◌, ◌||◌, cond, nat_le, nat_lt, nat_eq, ℤ, pos, negsuc, neg_ℤ, nat_abs, List, [], ◌∷◌, ◌++◌, refl, sym, ap, subst, ◌∙◌, ◌⊎◌, inl, inr, arith}
 use Rattle.std.specs.List.{list_any, list_all}
 use Rattle.std.specs.Ordering.{int_eq}
 use Rattle.std.proofs.lemmas.Bool.{and_parts, and_from, and_left, and_right, or_cases, or_parts, or_from, or_left, or_right, both_ways, not-true, not_from_true, not_from_false, false_from_ne_true, true_from_ne_false, cases_Bool, le-leb, leb-true, eq-eqb, eqb-true, ltb-true}
@@ -11,11 +11,13 @@ use Rattle.search_region.specs.Steady.{Steady, IsFull}
 use Rattle.search_region.specs.Cubes.{Good}
 use Rattle.search_region.specs.Region.{cut, leaves_at, front, root}
 use Rattle.search_region.specs.Moves.{is_kept, has_pair, is_met, keeps_flips, reaches, are_named}
-use Rattle.search_region.proofs.Literals.{lit_true_neg, nat_abs_neg, same_from_test, all_weaker, any_weaker, none_both}
+use Rattle.search_region.proofs.Literals.{all_weaker, any_weaker, none_both}
 use Rattle.search_region.proofs.Agree.{agree_head, agree_tail, agree_among, levels_within}
 use Rattle.search_region.proofs.Back.{steady_older}
 use Rattle.search_region.proofs.Flip.{fine_decided, assigned_newer}
 use Rattle.search_region.proofs.Hits.{lit_same}
+use Rattle.sat_terms.proofs.Disjoint.{lit_true-neg}
+use Rattle.sat_terms.proofs.CubeLemmas.{int_eq-true, neg-not_same, nat_abs-neg}
 
 -- the literal stands on the trail
 abbrev pub is_on : ℤ → List Item → Bool
@@ -30,13 +32,7 @@ abbrev pub with_hidden : (ℕ → Bool) → List Item → (ℕ → Bool) → ℕ
 with_hidden shown trail t v = cond (shown v) (t v) (value_on trail v)
 
 pub on_assigned : (l : ℤ) (trail : List Item) → is_on l trail ≡ true → is_assigned (nat_abs l) trail ≡ true
-on_assigned l trail h = any_weaker (λ i. int_eq l i.lit) (λ i. nat_eq (nat_abs l) (nat_abs i.lit)) (λ i e. eq-eqb (nat_abs l) (nat_abs i.lit) (ap nat_abs (same_from_test l i.lit e))) trail h
-
--- no nonzero literal is its own negation
-pub not_own_negation : (l : ℤ) → 0 < nat_abs l → l ≡ neg_ℤ l → ⊥
-not_own_negation (pos zero) h e = omega arith
-not_own_negation (pos (suc n)) h e = let apart : pos (suc n) ≡ negsuc n = e in cc
-not_own_negation (negsuc n) h e = let apart : negsuc n ≡ pos (suc n) = e in cc
+on_assigned l trail h = any_weaker (λ i. int_eq l i.lit) (λ i. nat_eq (nat_abs l) (nat_abs i.lit)) (λ i e. eq-eqb (nat_abs l) (nat_abs i.lit) (ap nat_abs (int_eq-true l i.lit e))) trail h
 
 module _ (f : List (List ℤ)) (shown : ℕ → Bool) where
   -- a trail has no literal with its negation
@@ -45,13 +41,13 @@ module _ (f : List (List ℤ)) (shown : ℕ → Bool) where
   not_both l named (i ∷ older) s h g =
       elim (or_cases (int_eq l i.lit) (is_on l older) h) [
         | inl a ↦ elim (or_cases (int_eq (neg_ℤ l) i.lit) (is_on (neg_ℤ l) older) g) [
-          | inl b ↦ not_own_negation l named (same_from_test l i.lit a ∙ sym (same_from_test (neg_ℤ l) i.lit b))
+          | inl b ↦ neg-not_same l named (int_eq-true (neg_ℤ l) i.lit b ∙ sym (int_eq-true l i.lit a))
           | inr b ↦ both_ways (is_assigned (nat_abs i.lit) older) s.0.fresh
-              (subst (λ n. is_assigned n older ≡ true) (nat_abs_neg l ∙ ap nat_abs (same_from_test l i.lit a)) (on_assigned (neg_ℤ l) older b))
+              (subst (λ n. is_assigned n older ≡ true) (nat_abs-neg l ∙ ap nat_abs (int_eq-true l i.lit a)) (on_assigned (neg_ℤ l) older b))
         ]
         | inr a ↦ elim (or_cases (int_eq (neg_ℤ l) i.lit) (is_on (neg_ℤ l) older) g) [
           | inl b ↦ both_ways (is_assigned (nat_abs i.lit) older) s.0.fresh
-              (subst (λ n. is_assigned n older ≡ true) (sym (nat_abs_neg l) ∙ ap nat_abs (same_from_test (neg_ℤ l) i.lit b)) (on_assigned l older a))
+              (subst (λ n. is_assigned n older ≡ true) (sym (nat_abs-neg l) ∙ ap nat_abs (int_eq-true (neg_ℤ l) i.lit b)) (on_assigned l older a))
           | inr b ↦ not_both l named older s.1 a b
         ]
       ]
@@ -80,7 +76,7 @@ module _ (f : List (List ℤ)) (shown : ℕ → Bool) where
       parts here = and_parts (int_eq l i.lit) (not (seen shown i) || nat_le i.level b) here
 
       same : (int_eq l i.lit && (not (seen shown i) || nat_le i.level b)) ≡ true → l ≡ i.lit
-      same here = same_from_test l i.lit (parts here).0
+      same here = int_eq-true l i.lit (parts here).0
 
       low : (int_eq l i.lit && (not (seen shown i) || nat_le i.level b)) ≡ true → seen shown i ≡ true → nat_le i.level b ≡ true
       low here shows = elim (or_cases (not (seen shown i)) (nat_le i.level b) (parts here).1) [
@@ -103,8 +99,8 @@ module _ (f : List (List ℤ)) (shown : ℕ → Bool) where
       (λ l has q. let (n, w) = and_parts (nat_lt 0 (nat_abs l)) (not (lit_true t l)) q in
       none_both (int_eq (neg_ℤ l)) (λ m. nat_lt 0 (nat_abs m) && not (lit_true t m))
       (λ m same z. both_ways (lit_true t (neg_ℤ l))
-      (ap (lit_true t) (same_from_test (neg_ℤ l) m same) ∙ not-true (lit_true t m) (and_parts (nat_lt 0 (nat_abs m)) (not (lit_true t m)) z).1)
-      (lit_true_neg t l (ltb-true 0 (nat_abs l) n) ∙ w))
+      (ap (lit_true t) (int_eq-true (neg_ℤ l) m same) ∙ not-true (lit_true t m) (and_parts (nat_lt 0 (nat_abs m)) (not (lit_true t m)) z).1)
+      (lit_true-neg t l (ltb-true 0 (nat_abs l) n) ∙ w))
       c has (all_wrong c named wrong))
       c h (all_wrong c named wrong)
     where

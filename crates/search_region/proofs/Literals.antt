@@ -1,30 +1,9 @@
 -- A literal and its negation; tests that hold of each element of a list.
-use Rattle.std.proofs.Common.{◌≡◌, ℕ, zero, suc, ◌<◌, Bool, true, false, not, ℤ, pos, negsuc, neg_ℤ, nat_abs, List, [], ◌∷◌, refl, ap, inl, inr, arith, ◌⊎◌}
+use Rattle.std.proofs.Common.{◌≡◌, zero, suc, Bool, true, false, ℤ, pos, negsuc, neg_ℤ, nat_abs, List, [], ◌∷◌, refl, ap, inl, inr, arith, ◌⊎◌}
 use Rattle.std.specs.List.{list_any, list_all}
 use Rattle.std.specs.Ordering.{int_eq}
 use Rattle.std.proofs.lemmas.Bool.{and_parts, and_from, or_cases, or_left, or_right, both_ways}
 use Rattle.std.proofs.lemmas.Bool.Decides.{Decides-int_eq}
-use Rattle.sat_terms.specs.Literals.{lit_true}
-
--- the negation is true where the literal is false
-pub lit_true_neg : (t : ℕ → Bool) (l : ℤ) → 0 < nat_abs l → lit_true t (neg_ℤ l) ≡ not (lit_true t l)
-lit_true_neg t (pos zero) h = absurd (omega arith)
-lit_true_neg t (pos (suc n)) h = refl
-lit_true_neg t (negsuc n) h = twice (t (suc n))
-  where
-    twice : (b : Bool) → b ≡ not (not b)
-    twice true = refl
-    twice false = refl
-
-pub neg_neg : (l : ℤ) → neg_ℤ (neg_ℤ l) ≡ l
-neg_neg (pos zero) = refl
-neg_neg (pos (suc n)) = refl
-neg_neg (negsuc n) = refl
-
-pub nat_abs_neg : (l : ℤ) → nat_abs (neg_ℤ l) ≡ nat_abs l
-nat_abs_neg (pos zero) = refl
-nat_abs_neg (pos (suc n)) = refl
-nat_abs_neg (negsuc n) = refl
 
 -- the two literals of a variable
 pub same_variable : (l m : ℤ) → nat_abs l ≡ nat_abs m → (l ≡ m) ⊎ (l ≡ neg_ℤ m)
@@ -34,9 +13,6 @@ same_variable (pos n) (negsuc m) e = inr (ap pos e)
 same_variable (negsuc n) (pos zero) e = absurd (omega arith)
 same_variable (negsuc n) (pos (suc m)) e = inr (ap negsuc (omega arith))
 same_variable (negsuc n) (negsuc m) e = inl (ap negsuc (omega arith))
-
-pub same_from_test : (l m : ℤ) → int_eq l m ≡ true → l ≡ m
-same_from_test l m = (Decides-int_eq l m).0
 
 pub test_from_same : (l m : ℤ) → l ≡ m → int_eq l m ≡ true
 test_from_same l m = (Decides-int_eq l m).1
