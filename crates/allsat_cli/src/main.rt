@@ -5,11 +5,10 @@
 use allsat_run::{Status, Words, run, write_note};
 use fault_io::{StdSink, StdSource};
 use std::alloc::AllocError;
-use std::env;
-use std::io;
 use std::io::{ErrorKind, Lock};
 use std::process::ExitCode;
 use std::rt::Env;
+use std::{env, io};
 
 /// Makes the real source, sinks and words, runs, and ends with the status's code.
 fn main(rt: HostRuntime) -> ExitCode {

@@ -1,0 +1,68 @@
+-- The items of a trail, the oldest first, and what they say of a variable.
+use Rattle.std.specs.Prelude.{ℕ, suc, ◌<◌, Bool, true, false, cond, ◌&&◌, nat_eq, nat_lt, nat_le, List, [], ◌∷◌, find, ℤ, nat_abs, Option, Some, None, is_none}
+use Rattle.std.specs.List.{list_any}
+use Rattle.std.specs.Ordering.{int_eq}
+use Rattle.chrono_trail.specs.declared.item.Kind.{Kind}
+use Rattle.chrono_trail.specs.declared.item.Kind.TheVariants.{Assumed, Decided, Flipped, Turned, Implied}
+use Rattle.chrono_trail.specs.declared.item.Item.{Item}
+
+-- The literal was decided.
+abbrev pub is_decided : Kind → Bool
+is_decided Assumed = false
+is_decided Decided = true
+is_decided Flipped = false
+is_decided (Turned id) = false
+is_decided (Implied id) = false
+
+-- The item of a variable, where it has one.
+abbrev pub item_of : List Item → ℕ → Option Item
+item_of items v = find (λ i. nat_eq v (nat_abs i.lit)) items
+
+-- The level of an item, where there is one.
+abbrev pub level_in : Option Item → Option ℕ
+level_in None = None
+level_in (Some i) = Some i.level
+
+-- Whether the literal is that of the item, where there is one.
+abbrev pub value_in : ℤ → Option Item → Option Bool
+value_in l None = None
+value_in l (Some i) = Some (int_eq i.lit l)
+
+-- The item is of level at most k.
+abbrev pub upto : ℕ → Item → Bool
+upto k i = nat_le i.level k
+
+-- The item is of one of the variables 1 to n.
+abbrev pub is_within : ℕ → Item → Bool
+is_within n i = nat_lt 0 (nat_abs i.lit) && nat_le (nat_abs i.lit) n
+
+-- The table of so many places has one for the item's variable.
+abbrev pub HasPlace : ℕ → Item → Type 0
+HasPlace places i = nat_abs i.lit < places
+
+-- The variable has an item of level at least k.
+abbrev pub goes : ℕ → List Item → ℕ → Bool
+goes k items v = list_any (λ i. nat_eq v (nat_abs i.lit) && nat_le k i.level) items
+
+-- No two items are of one variable.
+abbrev pub are_distinct : List Item → Bool
+are_distinct [] = true
+are_distinct (i ∷ later) = is_none (item_of later (nat_abs i.lit)) && are_distinct later
+
+-- The level that is current with an item, where k was current before it: a decision opens its own.
+abbrev pub level_after : ℕ → Item → ℕ
+level_after k i = cond (is_decided i.kind) i.level k
+
+-- The level that is current with the last of the items, where k was current before them.
+abbrev pub depth_from : ℕ → List Item → ℕ
+depth_from k [] = k
+depth_from k (i ∷ later) = depth_from (level_after k i) later
+
+-- The item may stand where level k is current: a decision opens the next level, and no other item is above k.
+abbrev pub may_stand : ℕ → Item → Bool
+may_stand k i = cond (is_decided i.kind) (nat_eq i.level (suc k)) (nat_le i.level k)
+
+-- Each of the items may stand where it does, where k is current before them.
+abbrev pub may_all_stand : ℕ → List Item → Bool
+may_all_stand k [] = true
+may_all_stand k (i ∷ later) = may_stand k i && may_all_stand (level_after k i) later

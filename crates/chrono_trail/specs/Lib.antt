@@ -1,0 +1,4 @@
+pub mod Items
+pub mod Trails
+pub mod Clauses
+pub mod Pictures

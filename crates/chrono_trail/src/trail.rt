@@ -1,0 +1,247 @@
+//! The trail, with a table of its items by variable.
+ghost use Rattle.std.specs.Prelude.{◌≡◌, ℕ, ◌+◌, ◌<◌, ◌≤◌, ◌^◌, ◌++◌, true, false, cond, [], ◌∷◌, None, IfOk, nat_abs, length, slice_set, slice_index_or, filter, take, vec_len, vec_capacity};
+ghost use Rattle.std.specs.List.{All, list_all};
+ghost use Rattle.chrono_trail.specs.Items.{item_of, level_in, value_in, is_decided, upto, depth_from, may_all_stand, HasPlace, goes};
+ghost use Rattle.chrono_trail.specs.Trails.{IsTrail};
+
+use crate::item::{Item, Kind};
+use std::alloc::{AllocError, Global};
+use std::marker::Model;
+
+/// The literals that are assigned, oldest first, and the current level.
+#[derive(Debug, Drop)]
+pub struct Trail {
+    items: Vec<Item>,
+    given: Vec<Option<Item>>,
+    level: u32,
+}
+
+impl Model for Trail {
+    ghost use Rattle.std.specs.Prelude.{length, ◌-◌, vec_capacity};
+    ghost use Rattle.chrono_trail.specs.Trails.{TrailView, IsKept};
+
+    ghost Value = { TrailView };
+
+    ghost view = { λ t. record { variables = length t.given.items - 1; items = t.items.items; level = t.level } };
+
+    ghost invariant = { λ t. IsKept t.items.items t.given.items t.level (vec_capacity t.items) };
+}
+
+impl Trail {
+    /// A trail of no items at level 0, for the variables 1 to `variables`. It takes the memory for an item of
+    /// each; no later call takes any.
+    pub fn make(alloc: Global, variables: u32) -> Result<Trail, AllocError>
+        requires { variables < 2 ^ 31 }
+        ensures variables { IfOk result (λ trail. trail.variables ≡ variables) }
+        ensures items { IfOk result (λ trail. trail.items ≡ []) }
+        ensures level { IfOk result (λ trail. trail.level ≡ 0) }
+    {
+        let places = variables as usize + 1;
+        Ok(Trail {
+            items: Vec::with_capacity(alloc, variables as usize)?,
+            given: vec![in alloc; None; places]?,
+            level: 0,
+        })
+    }
+
+    /// The items, the oldest first.
+    pub fn items(&self) -> &[Item]
+        ensures items { result.now ≡ self.now.items }
+        ensures trail { IsTrail self.now.variables self.now.items self.now.level }
+    {
+        self.items.as_slice()
+    }
+
+    /// The current level: that of the last decision, or 0.
+    pub fn level(&self) -> u32
+        ensures level { result ≡ self.now.level }
+        ensures trail { IsTrail self.now.variables self.now.items self.now.level }
+    {
+        self.level
+    }
+
+    /// Whether a literal is true or false; None where its variable is unassigned. It looks at one place.
+    pub fn value(&self, lit: i32) -> Option<bool>
+        requires { nat_abs lit ≤ self.now.variables }
+        ensures { result ≡ value_in lit (item_of self.now.items (nat_abs lit)) }
+    {
+        match self.given[lit.unsigned_abs() as usize] {
+            Some(item) => Some(item.lit == lit),
+            None => None,
+        }
+    }
+
+    /// The level of a variable; None where it is unassigned. It looks at one place.
+    pub fn level_of(&self, variable: u32) -> Option<u32>
+        requires { variable ≤ self.now.variables }
+        ensures { result ≡ level_in (item_of self.now.items variable) }
+    {
+        match self.given[variable as usize] {
+            Some(item) => Some(item.level),
+            None => None,
+        }
+    }
+
+    /// Appends a literal of an unassigned variable, on the current level or one below.
+    pub fn assign(&mut self, lit: i32, level: u32, kind: Kind)
+        requires named { 0 < nat_abs lit }
+        requires within { nat_abs lit ≤ self.old.variables }
+        requires unassigned { item_of self.old.items (nat_abs lit) ≡ None }
+        requires below { level ≤ self.old.level }
+        requires undecided { is_decided kind ≡ false }
+        ensures items { self.new.items ≡ self.old.items ++ record { lit = lit; level = level; kind = kind } ∷ [] }
+        ensures level { self.new.level ≡ self.old.level }
+        ensures variables { self.new.variables ≡ self.old.variables }
+    {
+        put(&mut self.items, &mut self.given, Item { lit, level, kind });
+    }
+
+    /// Decides a literal of an unassigned variable: opens the next level with it.
+    pub fn decide(&mut self, lit: i32)
+        requires named { 0 < nat_abs lit }
+        requires within { nat_abs lit ≤ self.old.variables }
+        requires unassigned { item_of self.old.items (nat_abs lit) ≡ None }
+        ensures items { self.new.items ≡ self.old.items ++ record { lit = lit; level = self.old.level + 1; kind = Kind.Decided } ∷ [] }
+        ensures level { self.new.level ≡ self.old.level + 1 }
+        ensures variables { self.new.variables ≡ self.old.variables }
+    {
+        let level = self.level + 1;
+        put(
+            &mut self.items,
+            &mut self.given,
+            Item {
+                lit,
+                level,
+                kind: Kind::Decided,
+            },
+        );
+        self.level = level;
+    }
+
+    /// Takes the levels above this one back: what stands on this level or below stays, in its order. It looks
+    /// at no item before the first one that goes.
+    pub fn backtrack(&mut self, level: u32)
+        requires { level ≤ self.old.level }
+        ensures items { self.new.items ≡ filter (upto level) self.old.items }
+        ensures level { self.new.level ≡ level }
+        ensures variables { self.new.variables ≡ self.old.variables }
+    {
+        if level == self.level {
+            return;
+        }
+        let start = first_above(self.items.as_slice(), self.level, level);
+        free(&mut self.given, &self.items[start..], level + 1);
+        keep_upto(&mut self.items, start, level);
+        self.level = level;
+    }
+
+    /// Takes every item off, those of level 0 too.
+    pub fn clear(&mut self)
+        ensures items { self.new.items ≡ [] }
+        ensures level { self.new.level ≡ 0 }
+        ensures variables { self.new.variables ≡ self.old.variables }
+    {
+        free(&mut self.given, self.items.as_slice(), 0);
+        self.items.clear();
+        self.level = 0;
+    }
+}
+
+/// Appends an item, and puts it in its variable's place.
+fn put(items: &mut Vec<Item>, given: &mut Vec<Option<Item>>, item: Item)
+    requires room { length items.old.items < vec_capacity items.old }
+    requires place { nat_abs item.lit < length given.old.items }
+    ensures items { items.new.items ≡ items.old.items ++ item ∷ [] }
+    ensures given { given.new.items ≡ slice_set given.old.items (nat_abs item.lit) (Some item) }
+    ensures capacity { vec_capacity items.old ≤ vec_capacity items.new }
+{
+    let pushed = items.push(item);
+    if pushed.is_err() {
+        unreachable!()
+    }
+    given[item.lit.unsigned_abs() as usize] = Some(item);
+}
+
+/// The place of the first item above the level, or the number of items: from the newest on, as many
+/// decisions are passed as there are levels to go.
+fn first_above(items: &[Item], current: u32, level: u32) -> usize
+    requires below { level ≤ current }
+    requires stands { may_all_stand 0 items.now ≡ true }
+    requires current { current ≡ depth_from 0 items.now }
+    ensures within { result ≤ length items.now }
+    ensures low { list_all (upto level) (take result items.now) ≡ true }
+{
+    let mut start = items.len();
+    let mut above = current - level;
+    while above > 0 {
+        start -= 1;
+        if items[start].kind.is_decided() {
+            above -= 1;
+        }
+    }
+    start
+}
+
+/// Empties the places of those of the items whose level is at least `least`.
+fn free(given: &mut Vec<Option<Item>>, items: &[Item], least: u32)
+    requires small { length given.old.items ≤ 2 ^ 31 }
+    requires places { All (HasPlace (length given.old.items)) items.now }
+    ensures length { length given.new.items ≡ length given.old.items }
+    ensures places { (v : ℕ) → slice_index_or given.new.items v None ≡ cond (goes least items.now v) None (slice_index_or given.old.items v None) }
+{
+    for item in items {
+        if item.level >= least {
+            given[item.lit.unsigned_abs() as usize] = None;
+        }
+    }
+}
+
+/// Keeps the items of this level and below, in their order. Those before `start` are, and are not looked at.
+fn keep_upto(items: &mut Vec<Item>, start: usize, level: u32)
+    requires within { start ≤ length items.old.items }
+    requires low { list_all (upto level) (take start items.old.items) ≡ true }
+    ensures items { items.new.items ≡ filter (upto level) items.old.items }
+    ensures capacity { vec_capacity items.new ≡ vec_capacity items.old }
+{
+    let mut kept = start;
+    for at in start..items.len() {
+        let item = items[at];
+        if item.level <= level {
+            items[kept] = item;
+            kept += 1;
+        }
+    }
+    items.truncate(kept);
+}
+
+#[cfg(test)]
+mod tests {
+    use super::*;
+    use std::test::Fail;
+
+    /// The second implied literal needs no decision, so it stands on level 0 and survives.
+    #[test]
+    fn a_literal_of_level_zero_survives_backtracking(rt: HostRuntime) -> Result<(), Fail> {
+        let mut trail = Trail::make(rt.alloc(), 3)?;
+        trail.decide(-1);
+        trail.assign(2, 1, Kind::Implied(0));
+        trail.assign(-3, 0, Kind::Implied(1));
+        assert_eq!(rt; trail.level(), 1);
+        assert_eq!(rt; trail.value(1), Some(false));
+        assert_eq!(rt; trail.level_of(2), Some(1));
+        trail.backtrack(0);
+        assert_eq!(rt;
+            trail.items(),
+            [Item {
+                lit: -3,
+                level: 0,
+                kind: Kind::Implied(1)
+            }]
+            .as_slice()
+        );
+        assert_eq!(rt; trail.value(2), None);
+        trail.clear();
+        assert_eq!(rt; trail.items().len(), 0);
+        Ok(())
+    }
+}

@@ -1,0 +1,5 @@
+pub mod Laid
+pub mod Literals
+pub mod Making
+pub mod Marks
+pub mod Pieces
