@@ -89,6 +89,7 @@ impl Arena {
         ensures unchanged { IfErr result (λ _. self.new ≡ self.old) }
     {
         let id = self.ends.len() as u32;
+        // Room for the end comes first: once the literals are in, nothing may fail.
         self.ends.reserve(1)?;
         self.lits.extend_from_slice(lits)?;
         match self.ends.push(self.lits.len() as u32) {
