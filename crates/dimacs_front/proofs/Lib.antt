@@ -1,5 +1,11 @@
 pub mod Behind
 pub mod Header
+pub mod HeaderLine
+pub mod ShowLine
+pub mod ShownSteps
 pub mod Sizes
+pub mod Sound
+pub mod Stopping
 pub mod Taking
+pub mod TakingText
 pub mod Variables

@@ -1,5 +1,5 @@
 -- What a reader keeps of a token.
-use Rattle.std.specs.Prelude.{ℕ, Bool, true, false, cond, nat_lt, List, [], ◌∷◌, ◌++◌, length, take}
+use Rattle.std.specs.Prelude.{ℕ, Bool, true, false, cond, nat_lt, List, [], ◌∷◌, ◌++◌, length, take, ◌==◌}
 use Rattle.dimacs_tokens.specs.declared.numerals.Numeral.{Numeral}
 use Rattle.dimacs_tokens.specs.Numbers.{numeral, more_numeral}
 
@@ -27,3 +27,11 @@ more_seen s b = record {
   head = cond (nat_lt (length s.head) 8) (s.head ++ b ∷ []) s.head;
   number = more_numeral s.number b;
 }
+
+-- whether the first byte is this one
+abbrev pub list_begins : List ℕ → ℕ → Bool
+list_begins [] b = false
+list_begins (c ∷ cs) b = c == b
+
+abbrev pub begins_with : SeenView → ℕ → Bool
+begins_with s b = list_begins s.head b

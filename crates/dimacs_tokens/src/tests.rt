@@ -80,3 +80,10 @@ fn the_laws_are_called(rt: HostRuntime) {
     laws::words_are_told_by_head();
     assert!(rt; Seen::new().is_empty());
 }
+
+#[test]
+fn a_token_begins_with_its_first_byte(rt: HostRuntime) {
+    assert!(rt; seen_of(b"%junk").begins_with(b'%'));
+    assert!(rt; !seen_of(b"junk%").begins_with(b'%'));
+    assert!(rt; !seen_of(b"").begins_with(0));
+}

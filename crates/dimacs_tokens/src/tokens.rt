@@ -2,7 +2,7 @@
 // So a token of any length costs no memory. No word of a DIMACS text has eight bytes.
 ghost use Rattle.std.specs.Prelude.{◌≡◌, ℕ, ◌<◌, List, [], ◌∷◌, ◌++◌, length};
 ghost use Rattle.std.specs.Str.{bytes_eq};
-ghost use Rattle.dimacs_tokens.specs.Seen.{seen, more_seen, is_empty};
+ghost use Rattle.dimacs_tokens.specs.Seen.{seen, more_seen, is_empty, begins_with};
 
 use crate::Numeral;
 use arrayvec::ArrayVec;
@@ -71,6 +71,16 @@ impl Seen {
         ensures { result ≡ bytes_eq self.now.head word.now }
     {
         self.head.as_slice() == word
+    }
+
+    /// Whether the token's first byte is this one.
+    pub fn begins_with(&self, byte: u8) -> bool
+        ensures { result ≡ begins_with self.now byte }
+    {
+        match self.head.as_slice() {
+            [first, ..] => *first == byte,
+            [] => false,
+        }
     }
 
     /// What the token says as a number.

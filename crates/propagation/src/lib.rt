@@ -13,4 +13,6 @@ mod scan;
 pub use propagator::{Propagated, Propagator};
 
 #[cfg(test)]
+mod table;
+#[cfg(test)]
 mod tests;

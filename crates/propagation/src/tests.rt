@@ -12,7 +12,11 @@ use std::alloc::{AllocError, Global};
 use std::test::Fail;
 
 /// The formula over the variables 1 to 4 with these two clauses.
-fn formula_of(alloc: Global, first: &[i32], second: &[i32]) -> Result<Formula, AllocError>
+pub(crate) fn formula_of(
+    alloc: Global,
+    first: &[i32],
+    second: &[i32],
+) -> Result<Formula, AllocError>
     requires first { All (IsLiteralOf 4) first.now }
     requires second { All (IsLiteralOf 4) second.now }
     requires few_first { length first.now ≤ 4 }
@@ -30,7 +34,7 @@ fn formula_of(alloc: Global, first: &[i32], second: &[i32]) -> Result<Formula, A
 }
 
 /// Its arena.
-fn arena_of(alloc: Global, formula: &Formula) -> Result<Arena, AllocError>
+pub(crate) fn arena_of(alloc: Global, formula: &Formula) -> Result<Arena, AllocError>
     requires { IsFormula formula.now.variables formula.now.clauses }
     ensures { IfOk result (λ arena. All (All (IsLiteralOf formula.now.variables)) arena.clauses) }
 {

@@ -1,0 +1,237 @@
+-- The sizes of a formula that is read, and of which variables its literals are.
+use Rattle.std.proofs.Common.{◌≡◌, ℕ, ◌+◌, ◌<◌, ◌≤◌, Bool, true, false, not, cond, eqb, leb, ltb, List, [], ◌∷◌, length, ℤ, nat_abs, Option, Some, None, Result, Ok, Err, IfOk, refl, sym, subst, arith}
+use Rattle.std.specs.List.{All, sum_by, range_with_len}
+use Rattle.std.specs.List.Sorted.{IsStrictlyIncreasing}
+use Rattle.std.proofs.lemmas.Bool.{leb-true, ltb-true, eqb-false}
+use Rattle.std.proofs.lemmas.List.{length_push}
+use Rattle.std.proofs.lemmas.List.Elements.{All-nil, All-push, All-filter}
+use Rattle.std.proofs.lemmas.List.Kept.{IsStrictlyIncreasing-filter}
+use Rattle.std.proofs.lemmas.List.FromFn.{length-range_with_len, get_or-range_with_len}
+use Rattle.std.proofs.lemmas.List.Sums.{sum_by-append}
+use Rattle.dimacs_tokens.specs.Cuts.{lines, tokens}
+use Rattle.dimacs_tokens.specs.Numbers.{value_of}
+use Rattle.dimacs_tokens.specs.Seen.{SeenView, seen, begins_with}
+use Rattle.dimacs_tokens.specs.Reading.{eats, line_read, lines_read}
+use Rattle.sat_terms.specs.Literals.{IsLiteralOf}
+use Rattle.dimacs_front.specs.declared.refusals.Refusal.{Refusal}
+use Rattle.dimacs_front.specs.declared.refusals.Refusal.TheVariants.{HeaderTwice, VariableTooLarge, ShowBad, TooManyVariables, TooManyClauses, TooManyLiterals}
+use Rattle.dimacs_front.specs.declared.refusals.ReadFailed.{ReadFailed}
+use Rattle.dimacs_front.specs.declared.line_place.LinePlace.{LinePlace}
+use Rattle.dimacs_front.specs.declared.line_place.LinePlace.TheVariants.{Beginning, HeaderWord, HeaderVariables, HeaderClauses, HeaderEnd, Clauses, Comment, CommentParted, CommentNamed, Show, ShowEnd, Passed, Over, Refused}
+use Rattle.dimacs_front.specs.declared.input.Input.{Input}
+use Rattle.dimacs_front.specs.Early.{natural}
+use Rattle.dimacs_front.specs.Limits.{most_bytes, most_variables, most_clauses, most_literals, most_shown}
+use Rattle.dimacs_front.specs.LinePlaces.{header_begun, comment_begun}
+use Rattle.dimacs_front.specs.Grammar.{WrittenView, nothing_written, clause_ended, literal_added, StateView, at_place, refuse, in_clauses, zero_eaten, literal_eaten, number_eaten, show_ended, variable_named, shown_eaten, below_begun, line_begun, eaten_at, eaten, closed_at, closed}
+use Rattle.dimacs_front.specs.Ending.{end_refusal, or_named, shown_of, input_of, with_shown, by_end, end_of}
+use Rattle.dimacs_front.specs.Whole.{TextView, text_at_start, eat_token, close_line, text_after, last_line, answer_by, answer, reads}
+use Rattle.dimacs_front.specs.Answers.{ReadsText, IsWithinLimits}
+
+-- what holds of the formula behind every token
+pub record IsSound (w : WrittenView) : Type 0 where
+  pub within : w.variables ≤ most_variables
+  pub named : All (All (IsLiteralOf w.variables)) w.clauses
+  pub open_named : All (IsLiteralOf w.variables) w.open_clause
+  pub few_clauses : length w.clauses ≤ most_clauses
+  pub counted : sum_by length w.clauses + length w.open_clause ≡ w.literals
+  pub few_literals : w.literals ≤ most_literals
+
+nothing_sound : (v c : ℕ) → v ≤ most_variables → IsSound (nothing_written v c)
+nothing_sound v c h = record {
+  within = h;
+  named = All-nil (All (IsLiteralOf v));
+  open_named = All-nil (IsLiteralOf v);
+  few_clauses = omega arith;
+  counted = refl;
+  few_literals = omega arith;
+}
+
+ended_sound : (w : WrittenView) → IsSound w → length w.clauses < most_clauses → IsSound (clause_ended w)
+ended_sound w s h = record {
+  within = s.within;
+  named = All-push (All (IsLiteralOf w.variables)) w.clauses w.open_clause s.named s.open_named;
+  open_named = All-nil (IsLiteralOf w.variables);
+  few_clauses = omega (arith, length_push w.clauses w.open_clause);
+  counted = omega (arith, s.counted, sum_by-append length w.clauses (w.open_clause ∷ []));
+  few_literals = s.few_literals;
+}
+
+added_sound : (w : WrittenView) (l : ℤ) → IsSound w → 0 < nat_abs l → nat_abs l ≤ w.variables → w.literals < most_literals → IsSound (literal_added w l)
+added_sound w l s some le h = record {
+  within = s.within;
+  named = s.named;
+  open_named = All-push (IsLiteralOf w.variables) w.open_clause l s.open_named (some, le);
+  few_clauses = s.few_clauses;
+  counted = omega (arith, s.counted, length_push w.open_clause l);
+  few_literals = omega arith;
+}
+
+-- a token among the clauses
+zero_sound : (n : ℕ) (s : StateView) (q : Bool) → ltb (length s.formula.clauses) most_clauses ≡ q → IsSound s.formula → IsSound (cond q (in_clauses s (clause_ended s.formula)) (refuse s (TooManyClauses n))).formula
+zero_sound n s true e h = ended_sound s.formula h (ltb-true (length s.formula.clauses) most_clauses e)
+zero_sound n s false e h = h
+
+literal_sound : (n : ℕ) (s : StateView) (l : ℤ) (m q : Bool) → leb (nat_abs l) s.formula.variables ≡ m → ltb s.formula.literals most_literals ≡ q → 0 < nat_abs l → IsSound s.formula → IsSound (cond m (cond q (in_clauses s (literal_added s.formula l)) (refuse s (TooManyLiterals n))) (refuse s (VariableTooLarge n))).formula
+literal_sound n s l true true e f some h = added_sound s.formula l h some (leb-true (nat_abs l) s.formula.variables e) (ltb-true s.formula.literals most_literals f)
+literal_sound n s l true false e f some h = h
+literal_sound n s l false q e f some h = h
+
+value_sound : (n : ℕ) (s : StateView) (l : ℤ) (z : Bool) → eqb (nat_abs l) 0 ≡ z → IsSound s.formula → IsSound (cond z (zero_eaten n s) (literal_eaten n s l)).formula
+value_sound n s l true e h = zero_sound n s (ltb (length s.formula.clauses) most_clauses) refl h
+value_sound n s l false e h =
+    let some : nat_abs l ≡ 0 → ⊥ = eqb-false (nat_abs l) 0 e in
+    literal_sound n s l (leb (nat_abs l) s.formula.variables) (ltb s.formula.literals most_literals) refl refl (omega arith) h
+
+number_sound : (n : ℕ) (s : StateView) (o : Option ℤ) → IsSound s.formula → IsSound (number_eaten n s o).formula
+number_sound n s None h = h
+number_sound n s (Some l) h = value_sound n s l (eqb (nat_abs l) 0) refl h
+
+-- of two states
+either_sound : (q : Bool) (s u : StateView) → IsSound s.formula → IsSound u.formula → IsSound (cond q s u).formula
+either_sound true s u h k = h
+either_sound false s u h k = k
+
+shown_sound : (n : ℕ) (s : StateView) (o : Option ℕ) → IsSound s.formula → IsSound (shown_eaten n s o).formula
+shown_sound n s None h = h
+shown_sound n s (Some v) h =
+    either_sound (eqb v 0) (show_ended s) _ h (either_sound (leb v most_variables) (variable_named n s v) (refuse s (ShowBad n)) h h)
+
+begun_sound : (n : ℕ) (s : StateView) (t : SeenView) → IsSound s.formula → IsSound (line_begun n s t).formula
+begun_sound n s t h =
+    let numbered : IsSound (number_eaten n s (value_of t.number)).formula = number_sound n s (value_of t.number) h in
+    either_sound (begins_with t 99) (at_place s (comment_begun t)) _ h
+    (either_sound s.started (below_begun n s t) (at_place s (header_begun n t))
+    (either_sound (begins_with t 112) (refuse s (HeaderTwice n)) _ h (either_sound (begins_with t 37) (at_place s Over) _ h numbered))
+    h)
+
+eaten_sound-at : (p : LinePlace) (n : ℕ) (s : StateView) (t : SeenView) → IsSound s.formula → IsSound (eaten_at p n s t).formula
+eaten_sound-at Beginning n s t h = begun_sound n s t h
+eaten_sound-at HeaderWord n s t h = h
+eaten_sound-at HeaderVariables n s t h = h
+eaten_sound-at (HeaderClauses v) n s t h = h
+eaten_sound-at (HeaderEnd v c) n s t h = h
+eaten_sound-at Clauses n s t h = number_sound n s (value_of t.number) h
+eaten_sound-at Comment n s t h = h
+eaten_sound-at CommentParted n s t h = h
+eaten_sound-at CommentNamed n s t h = h
+eaten_sound-at Show n s t h = shown_sound n s (natural (value_of t.number)) h
+eaten_sound-at ShowEnd n s t h = h
+eaten_sound-at Passed n s t h = h
+eaten_sound-at Over n s t h = h
+eaten_sound-at (Refused r) n s t h = h
+
+eaten_sound : (n : ℕ) (s : StateView) (t : SeenView) → IsSound s.formula → IsSound (eaten n s t).formula
+unfolding eaten
+eaten_sound n s t h = eaten_sound-at s.place n s t h
+
+-- the end of a line
+header_sound : (n : ℕ) (s : StateView) (v c : ℕ) (m : Bool) → leb v most_variables ≡ m → IsSound s.formula → IsSound (cond m (cond (leb c most_clauses) (record { place = Beginning; started = true; formula = nothing_written v c; given = s.given; named = s.named }) (refuse s (TooManyClauses n))) (refuse s (TooManyVariables n))).formula
+header_sound n s v c true e h =
+    either_sound (leb c most_clauses) (record { place = Beginning; started = true; formula = nothing_written v c; given = s.given; named = s.named }) (refuse s (TooManyClauses n)) (nothing_sound v c (leb-true v most_variables e)) h
+header_sound n s v c false e h = h
+
+closed_sound-at : (p : LinePlace) (n : ℕ) (s : StateView) → IsSound s.formula → IsSound (closed_at p n s).formula
+closed_sound-at Beginning n s h = h
+closed_sound-at HeaderWord n s h = h
+closed_sound-at HeaderVariables n s h = h
+closed_sound-at (HeaderClauses v) n s h = h
+closed_sound-at (HeaderEnd v c) n s h = header_sound n s v c (leb v most_variables) refl h
+closed_sound-at Clauses n s h = h
+closed_sound-at Comment n s h = h
+closed_sound-at CommentParted n s h = h
+closed_sound-at CommentNamed n s h = h
+closed_sound-at Show n s h = h
+closed_sound-at ShowEnd n s h = h
+closed_sound-at Passed n s h = h
+closed_sound-at Over n s h = h
+closed_sound-at (Refused r) n s h = h
+
+closed_sound : (n : ℕ) (s : StateView) → IsSound s.formula → IsSound (closed n s).formula
+unfolding closed
+closed_sound n s h = closed_sound-at s.place n s h
+
+eats_sound : (j : TextView) (ts : List (List ℕ)) → IsSound j.state.formula → IsSound (eats eat_token j ts).state.formula
+unfolding eats
+eats_sound j [] h = h
+eats_sound j (t ∷ ts) h = eats_sound (eat_token j (seen t)) ts (eaten_sound (j.lines + 1) j.state (seen t) h)
+
+lines_sound : (j : TextView) (ls : List (List ℕ)) → IsSound j.state.formula → IsSound (lines_read eat_token close_line j ls).state.formula
+unfolding lines_read
+lines_sound j [] h = h
+lines_sound j (l ∷ ls) h =
+    let k : TextView = eats eat_token j (tokens l) in
+    lines_sound (line_read eat_token close_line j l) ls (closed_sound (k.lines + 1) k.state (eats_sound j (tokens l) h))
+
+text_sound : (ls : List (List ℕ)) → IsSound (text_after ls).state.formula
+text_sound ls = lines_sound text_at_start ls (nothing_sound 0 0 (omega arith))
+
+-- the variables 1 to n
+range_rises : (a n : ℕ) → IsStrictlyIncreasing (range_with_len a n)
+range_rises a n = λ k lt.
+    let size = length-range_with_len a n in
+    let here = get_or-range_with_len a n k 0 (omega arith) in
+    let next = get_or-range_with_len a n (k + 1) 0 (omega arith) in
+    omega arith
+
+abbrev IsVariableOf : ℕ → ℕ → Type 0
+IsVariableOf n v = (0 < v) × (v ≤ n)
+
+range_named : (n : ℕ) → All (IsVariableOf n) (range_with_len 1 n)
+range_named n = λ k d lt.
+    let size = length-range_with_len 1 n in
+    let here = get_or-range_with_len 1 n k d (omega arith) in
+    (omega arith, omega arith)
+
+-- the input of a text that ends
+shown_limits : (s : StateView) (vs : List ℕ) → vs ≡ shown_of s.given s.named s.formula.variables → length vs ≤ most_shown → IsSound s.formula → IsWithinLimits (input_of s.formula vs)
+shown_limits s vs e le h =
+    let p : ℕ → Bool = or_named (not s.given) s.named in
+    let v : ℕ = s.formula.variables in
+    let rises : IsStrictlyIncreasing vs = subst IsStrictlyIncreasing (sym e) (IsStrictlyIncreasing-filter p (range_with_len 1 v) (range_rises 1 v)) in
+    let named : All (IsVariableOf v) vs = subst (λ (xs : List ℕ). All (IsVariableOf v) xs) (sym e) (All-filter p (IsVariableOf v) (range_with_len 1 v) (range_named v)) in
+    record {
+      subject = record {
+        formula = record {
+          variables = omega (arith, h.within);
+          clauses = omega (arith, h.few_clauses);
+          literals = omega (arith, h.counted, h.few_literals);
+          named = h.named;
+        };
+        shown = record { rising = rises; named = named };
+      };
+      shown = le;
+    }
+
+few_limits : (n : ℕ) (s : StateView) (input : Input) (vs : List ℕ) (q : Bool) → leb (length vs) most_shown ≡ q → vs ≡ shown_of s.given s.named s.formula.variables → IsSound s.formula → with_shown n s.formula (cond q (Some vs) None) ≡ Ok input → IsWithinLimits input
+few_limits n s input vs true e f h k =
+    let same : input_of s.formula vs ≡ input = cc in
+    subst IsWithinLimits same (shown_limits s vs f (leb-true (length vs) most_shown e) h)
+few_limits n s input vs false e f h k = absurd (cc)
+
+by_end_limits : (o : Option Refusal) (n : ℕ) (s : StateView) (input : Input) → IsSound s.formula → by_end o n s ≡ Ok input → IsWithinLimits input
+by_end_limits (Some r) n s input h k = absurd (cc)
+by_end_limits None n s input h k =
+    let vs : List ℕ = shown_of s.given s.named s.formula.variables in
+    few_limits n s input vs (leb (length vs) most_shown) refl refl h k
+
+end_limits : (n : ℕ) (s : StateView) (input : Input) → IsSound s.formula → end_of n s ≡ Ok input → IsWithinLimits input
+unfolding end_of
+end_limits n s input h k = by_end_limits (end_refusal n s) n s input h k
+
+answer_limits : (o : Option Refusal) (n : ℕ) (s : StateView) (input : Input) → IsSound s.formula → answer_by o n s ≡ Ok input → IsWithinLimits input
+answer_limits (Some r) n s input h k = absurd (cc)
+answer_limits None n s input h k = end_limits (last_line n) s input h k
+
+reads_limits-at : (q : Bool) (j : TextView) (r : Refusal) (input : Input) → IsSound j.state.formula → cond q (answer j) (Err r) ≡ Ok input → IsWithinLimits input
+reads_limits-at true j r input h k = answer_limits j.stopped j.lines j.state input h k
+reads_limits-at false j r input h k = absurd (cc)
+
+reads_limits : (bs : List ℕ) (input : Input) → reads bs ≡ Ok input → IsWithinLimits input
+unfolding reads
+reads_limits bs input k =
+    reads_limits-at (leb (length bs) most_bytes) (text_after (lines bs)) _ input (text_sound (lines bs)) k
+
+-- what is read is within the limits
+pub text_limits : (old new : Option (List ℕ)) (before after : ℕ) (result : Result Input ReadFailed) → ReadsText old new before after result → IfOk result IsWithinLimits
+text_limits old new before after (Ok input) r = reads_limits r.bytes input r.says.says
+text_limits old new before after (Err failed) r = tt

@@ -1,0 +1,163 @@
+-- What a token says in a text, and what the end of a line does. Here n is the line's number, counted from 1.
+use Rattle.std.specs.Prelude.{ℕ, Bool, true, false, cond, ◌==◌, nat_le, nat_lt, List, [], ◌∷◌, ◌++◌, length, ◌+◌, ℤ, nat_abs, Option, Some, None}
+use Rattle.dimacs_tokens.specs.Numbers.{value_of}
+use Rattle.dimacs_tokens.specs.Seen.{SeenView, begins_with}
+use Rattle.dimacs_front.specs.declared.refusals.Refusal.{Refusal}
+use Rattle.dimacs_front.specs.declared.refusals.Refusal.TheVariants.{BadHeader, HeaderTwice, BadNumber, VariableTooLarge, ShowBad, ShowUnended, TooManyVariables, TooManyClauses, TooManyLiterals}
+use Rattle.dimacs_front.specs.declared.line_place.LinePlace.{LinePlace}
+use Rattle.dimacs_front.specs.declared.line_place.LinePlace.TheVariants.{Beginning, HeaderWord, HeaderVariables, HeaderClauses, HeaderEnd, Clauses, Comment, CommentParted, CommentNamed, Show, ShowEnd, Passed, Over, Refused}
+use Rattle.dimacs_front.specs.declared.shown.Named.{Named}
+use Rattle.dimacs_front.specs.Early.{natural}
+use Rattle.dimacs_front.specs.Limits.{most_variables, most_clauses, most_literals}
+use Rattle.dimacs_front.specs.LinePlaces.{header_begun, comment_begun, place_after}
+
+-- what the header and the clauses say: the numbers of variables and of clauses by the header, the clauses
+-- that are ended, the literals behind them, and how many literals there are in all
+pub record WrittenView : Type 0 where
+  pub variables : ℕ
+  pub said : ℕ
+  pub clauses : List (List ℤ)
+  pub open_clause : List ℤ
+  pub literals : ℕ
+
+-- below the header
+abbrev pub nothing_written : ℕ → ℕ → WrittenView
+nothing_written v c = record { variables = v; said = c; clauses = []; open_clause = []; literals = 0 }
+
+-- the clause is ended, and its next literal
+abbrev pub clause_ended : WrittenView → WrittenView
+clause_ended w = record {
+  variables = w.variables;
+  said = w.said;
+  clauses = w.clauses ++ w.open_clause ∷ [];
+  open_clause = [];
+  literals = w.literals;
+}
+
+abbrev pub literal_added : WrittenView → ℤ → WrittenView
+literal_added w l = record {
+  variables = w.variables;
+  said = w.said;
+  clauses = w.clauses;
+  open_clause = w.open_clause ++ l ∷ [];
+  literals = w.literals + 1;
+}
+
+-- the place in the line, whether there was a header, the formula below it, whether a show line was ended,
+-- and the variables of all show lines with their lines
+pub record StateView : Type 0 where
+  pub place : LinePlace
+  pub started : Bool
+  pub formula : WrittenView
+  pub given : Bool
+  pub named : List Named
+
+abbrev pub nothing_said_yet : StateView
+nothing_said_yet = record { place = Beginning; started = false; formula = nothing_written 0 0; given = false; named = [] }
+
+-- the state at another place
+abbrev pub at_place : StateView → LinePlace → StateView
+at_place s p = record { place = p; started = s.started; formula = s.formula; given = s.given; named = s.named }
+
+abbrev pub refuse : StateView → Refusal → StateView
+refuse s r = at_place s (Refused r)
+
+-- the state among the clauses, with this formula
+abbrev pub in_clauses : StateView → WrittenView → StateView
+in_clauses s w = record { place = Clauses; started = s.started; formula = w; given = s.given; named = s.named }
+
+-- a token of a clause: 0 ends the clause, and any other number is its next literal
+abbrev pub zero_eaten : ℕ → StateView → StateView
+zero_eaten n s =
+    cond (nat_lt (length s.formula.clauses) most_clauses)
+    (in_clauses s (clause_ended s.formula))
+    (refuse s (TooManyClauses n))
+
+abbrev pub literal_eaten : ℕ → StateView → ℤ → StateView
+literal_eaten n s l =
+    cond (nat_le (nat_abs l) s.formula.variables)
+    (cond (nat_lt s.formula.literals most_literals)
+    (in_clauses s (literal_added s.formula l))
+    (refuse s (TooManyLiterals n)))
+    (refuse s (VariableTooLarge n))
+
+abbrev pub number_eaten : ℕ → StateView → Option ℤ → StateView
+number_eaten n s None = refuse s (BadNumber n)
+number_eaten n s (Some l) = cond (nat_abs l == 0) (zero_eaten n s) (literal_eaten n s l)
+
+-- a token of a show line: variables, and a 0 that ends them
+abbrev pub show_ended : StateView → StateView
+show_ended s = record { place = ShowEnd; started = s.started; formula = s.formula; given = true; named = s.named }
+
+abbrev pub variable_named : ℕ → StateView → ℕ → StateView
+variable_named n s v = record {
+  place = s.place;
+  started = s.started;
+  formula = s.formula;
+  given = s.given;
+  named = s.named ++ record { variable = v; line = n } ∷ [];
+}
+
+abbrev pub shown_eaten : ℕ → StateView → Option ℕ → StateView
+shown_eaten n s None = refuse s (ShowBad n)
+shown_eaten n s (Some v) =
+    cond (v == 0)
+    (show_ended s)
+    (cond (nat_le v most_variables) (variable_named n s v) (refuse s (ShowBad n)))
+
+-- the first token of a line below the header: `p` (112) begins a second header, and `%` (37) ends the formula
+abbrev pub below_begun : ℕ → StateView → SeenView → StateView
+below_begun n s t =
+    cond (begins_with t 112)
+    (refuse s (HeaderTwice n))
+    (cond (begins_with t 37) (at_place s Over) (number_eaten n s (value_of t.number)))
+
+-- the first token of a line: `c` (99) begins a comment
+abbrev pub line_begun : ℕ → StateView → SeenView → StateView
+line_begun n s t =
+    cond (begins_with t 99)
+    (at_place s (comment_begun t))
+    (cond s.started (below_begun n s t) (at_place s (header_begun n t)))
+
+-- a token in a line at this place
+abbrev pub eaten_at : LinePlace → ℕ → StateView → SeenView → StateView
+eaten_at Beginning n s t = line_begun n s t
+eaten_at Clauses n s t = number_eaten n s (value_of t.number)
+eaten_at Show n s t = shown_eaten n s (natural (value_of t.number))
+eaten_at p n s t = at_place s (place_after p n t)
+
+unfoldable pub eaten : ℕ → StateView → SeenView → StateView
+eaten n s t = eaten_at s.place n s t
+
+-- the header's line ends
+abbrev pub header_ended : ℕ → StateView → ℕ → ℕ → StateView
+header_ended n s v c =
+    cond (nat_le v most_variables)
+    (cond (nat_le c most_clauses)
+    (record { place = Beginning; started = true; formula = nothing_written v c; given = s.given; named = s.named })
+    (refuse s (TooManyClauses n)))
+    (refuse s (TooManyVariables n))
+
+-- the place behind the end of any other line
+abbrev pub place_closed : LinePlace → ℕ → LinePlace
+place_closed Beginning n = Beginning
+place_closed HeaderWord n = Refused (BadHeader n)
+place_closed HeaderVariables n = Refused (BadHeader n)
+place_closed (HeaderClauses v) n = Refused (BadHeader n)
+place_closed (HeaderEnd v c) n = Beginning
+place_closed Clauses n = Beginning
+place_closed Comment n = Beginning
+place_closed CommentParted n = Beginning
+place_closed CommentNamed n = Beginning
+place_closed Show n = Refused (ShowUnended n)
+place_closed ShowEnd n = Beginning
+place_closed Passed n = Beginning
+place_closed Over n = Over
+place_closed (Refused r) n = Refused r
+
+abbrev pub closed_at : LinePlace → ℕ → StateView → StateView
+closed_at (HeaderEnd v c) n s = header_ended n s v c
+closed_at p n s = at_place s (place_closed p n)
+
+unfoldable pub closed : ℕ → StateView → StateView
+closed n s = closed_at s.place n s

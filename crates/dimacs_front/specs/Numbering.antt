@@ -1,0 +1,42 @@
+-- The numbers and the lines of refusals.
+use Rattle.std.specs.Prelude.{ℕ}
+use Rattle.dimacs_front.specs.declared.refusals.Refusal.{Refusal}
+use Rattle.dimacs_front.specs.declared.refusals.Refusal.TheVariants.{BadStart, BadHeader, HeaderTwice, NoHeader, BadNumber, VariableTooLarge, Unfinished, ClauseCount, ShowBad, ShowUnended, TooManyVariables, TooManyClauses, TooManyLiterals, TooManyShown, TextTooLong, NotBuilt}
+
+-- the number that notes to the user give
+abbrev pub number_of : Refusal → ℕ
+number_of (BadStart line) = 1
+number_of (BadHeader line) = 2
+number_of (HeaderTwice line) = 3
+number_of (NoHeader line) = 4
+number_of (BadNumber line) = 5
+number_of (VariableTooLarge line) = 6
+number_of (Unfinished line) = 7
+number_of (ClauseCount line said found) = 8
+number_of (ShowBad line) = 9
+number_of (ShowUnended line) = 10
+number_of (TooManyVariables line) = 11
+number_of (TooManyClauses line) = 12
+number_of (TooManyLiterals line) = 13
+number_of (TooManyShown line) = 14
+number_of (TextTooLong line) = 15
+number_of (NotBuilt line) = 20
+
+-- the line that is refused, counted from 1
+abbrev pub line_of : Refusal → ℕ
+line_of (BadStart line) = line
+line_of (BadHeader line) = line
+line_of (HeaderTwice line) = line
+line_of (NoHeader line) = line
+line_of (BadNumber line) = line
+line_of (VariableTooLarge line) = line
+line_of (Unfinished line) = line
+line_of (ClauseCount line said found) = line
+line_of (ShowBad line) = line
+line_of (ShowUnended line) = line
+line_of (TooManyVariables line) = line
+line_of (TooManyClauses line) = line
+line_of (TooManyLiterals line) = line
+line_of (TooManyShown line) = line
+line_of (TextTooLong line) = line
+line_of (NotBuilt line) = line

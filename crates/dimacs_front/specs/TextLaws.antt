@@ -1,0 +1,63 @@
+-- What holds of whole lines, said without the places in them.
+use Rattle.std.specs.Prelude.{◌≡◌, ℕ, ◌<◌, ◌≤◌, Bool, true, false, cond, ◌&&◌, List, [], ◌∷◌, ◌++◌, map, fold, codes, Option, Some, None}
+use Rattle.std.specs.List.{All}
+use Rattle.std.specs.Str.{bytes_eq}
+use Rattle.dimacs_tokens.specs.Numbers.{token_value}
+use Rattle.dimacs_tokens.specs.Seen.{seen, begins_with}
+use Rattle.dimacs_front.specs.declared.refusals.Refusal.{Refusal}
+use Rattle.dimacs_front.specs.declared.refusals.Refusal.TheVariants.{BadHeader}
+use Rattle.dimacs_front.specs.declared.line_place.LinePlace.TheVariants.{Beginning}
+use Rattle.dimacs_front.specs.declared.shown.Named.{Named}
+use Rattle.dimacs_front.specs.Early.{natural, Header}
+use Rattle.dimacs_front.specs.Limits.{most_variables}
+use Rattle.dimacs_front.specs.Grammar.{WrittenView, StateView, refuse, eaten, header_ended, closed}
+use Rattle.dimacs_front.specs.Whole.{text_after}
+
+-- what the tokens of line n say, and its end
+abbrev pub line_said : ℕ → StateView → List (List ℕ) → StateView
+line_said n s ts = closed n (fold (λ u t. eaten n u (seen t)) s ts)
+
+-- the header with these numbers
+abbrev pub numbers_of : Option ℕ → Option ℕ → Option Header
+numbers_of None c = None
+numbers_of (Some v) None = None
+numbers_of (Some v) (Some c) = Some (record { variables = v; clauses = c })
+
+-- the numbers of a header: its tokens are just `p`, `cnf` and two numbers without a minus
+unfoldable pub header_numbers : List (List ℕ) → Option Header
+header_numbers (p ∷ cnf ∷ v ∷ c ∷ []) =
+    cond (bytes_eq p (codes "p") && bytes_eq cnf (codes "cnf"))
+    (numbers_of (natural (token_value v)) (natural (token_value c)))
+    None
+header_numbers _ = None
+
+abbrev pub header_said : ℕ → StateView → Option Header → StateView
+header_said n s None = refuse s (BadHeader n)
+header_said n s (Some h) = header_ended n s h.variables h.clauses
+
+-- at the beginning of a line, above the header or below
+abbrev pub beginning : Bool → WrittenView → Bool → List Named → StateView
+beginning started w given named =
+    record { place = Beginning; started = started; formula = w; given = given; named = named }
+
+-- a line above the header whose first byte is `p` (112) has just the four tokens of a header, or is refused
+abbrev pub AHeaderHasFourTokens : Type 0
+AHeaderHasFourTokens =
+    (n : ℕ) (w : WrittenView) (given : Bool) (named : List Named) (t : List ℕ) (ts : List (List ℕ)) → begins_with (seen t) 112 ≡ true → line_said n (beginning false w given named) (t ∷ ts) ≡ header_said n (beginning false w given named) (header_numbers (t ∷ ts))
+
+-- a variable of a show line
+abbrev pub IsVariable : ℕ → Type 0
+IsVariable v = (0 < v) × (v ≤ most_variables)
+
+abbrev pub named_in : ℕ → ℕ → Named
+named_in n v = record { variable = v; line = n }
+
+-- a show line of tokens with these values, which a 0 ends, names just these variables, above the header and below
+abbrev pub AShowLineNamesItsVariables : Type 0
+AShowLineNamesItsVariables =
+    (n : ℕ) (started : Bool) (w : WrittenView) (given : Bool) (named : List Named) (ts : List (List ℕ)) (z : List ℕ) (vs : List ℕ) → map (λ t. natural (token_value t)) ts ≡ map (λ v. Some v) vs → All IsVariable vs → natural (token_value z) ≡ Some 0 → line_said n (beginning started w given named) (codes "c" ∷ codes "p" ∷ codes "show" ∷ ts ++ z ∷ []) ≡ beginning started w true (named ++ map (named_in n) vs)
+
+-- the lowest refused line counts: lines behind it change nothing
+abbrev pub TheLowestRefusedLineCounts : Type 0
+TheLowestRefusedLineCounts =
+    (r : Refusal) (ls ms : List (List ℕ)) → (text_after ls).stopped ≡ Some r → (text_after (ls ++ ms)).stopped ≡ Some r

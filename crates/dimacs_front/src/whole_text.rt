@@ -1,0 +1,98 @@
+// The loop over the source.
+ghost use Rattle.std.specs.Prelude.{◌≡◌, ◌-◌, ◌<◌, ◌≤◌, length, vec_len, IfOk};
+ghost use Rattle.dimacs_front.specs.Answers.{ReadsText, TellsText, IsWithinLimits};
+ghost use Rattle.dimacs_front.specs.Pieces.{FeedsOn};
+
+use crate::text_reader::TextReader;
+use crate::{Input, MOST_BYTES, ReadFailed, Refusal};
+use fault_io::Source;
+use std::alloc::{AllocError, Global};
+
+const PIECE_SIZE: usize = 65_536;
+
+/// Reads a text from the source, up to its end, or up to the piece in which a line is refused or the text
+/// grows too long. Takes memory for the formula, the variables of the show lines and one buffer, whatever
+/// the length of the lines.
+pub fn read_text<S: Source>(alloc: Global, source: &mut S) -> Result<Input, ReadFailed>
+    ensures reads { ReadsText
+        (S.left source.old) (S.left source.new)
+        (S.faults source.old) (S.faults source.new) result }
+
+    // What it is for all the bytes that the source had.
+    ensures told { TellsText (S.left source.old) result }
+
+    ensures sizes { IfOk result IsWithinLimits }
+{
+    match zero_bytes(alloc, PIECE_SIZE) {
+        Ok(mut buffer) => read_pieces(alloc, source, &mut buffer),
+        Err(error) => Err(ReadFailed::OutOfMemory(error)),
+    }
+}
+
+fn zero_bytes(alloc: Global, size: usize) -> Result<Vec<u8>, AllocError>
+    ensures { IfOk result (λ v. vec_len v ≡ size) }
+{
+    vec![in alloc; 0u8; size]
+}
+
+// Reads a text piece by piece.
+fn read_pieces<S: Source>(
+    alloc: Global,
+    source: &mut S,
+    buffer: &mut [u8],
+) -> Result<Input, ReadFailed>
+    requires { 0 < length buffer.old }
+    ensures { ReadsText
+        (S.left source.old) (S.left source.new)
+        (S.faults source.old) (S.faults source.new) result }
+{
+    let mut reader = TextReader::new(alloc);
+    let mut count: usize = 0;
+    loop {
+        match source.take(buffer) {
+            Err(_) => return Err(ReadFailed::ReadFault(reader.lines() + 1)),
+            Ok(0) => return reader.finish(),
+            Ok(taken) => match feed_next(&mut reader, count, &buffer[..taken]) {
+                Ok(more) => count = more,
+                Err(failed) => return Err(failed),
+            },
+        }
+    }
+}
+
+// Feeds the next piece, as far as the text may go on, and counts its bytes.
+fn feed_next(reader: &mut TextReader, count: usize, piece: &[u8]) -> Result<usize, ReadFailed>
+    requires within { count ≤ MOST_BYTES }
+    requires lines { reader.old.state.lines ≤ count }
+    ensures { FeedsOn reader.old count piece.now reader.new result }
+{
+    if piece.len() > MOST_BYTES - count {
+        return feed_last(reader, count, piece);
+    }
+    if let Err(error) = reader.feed(piece) {
+        return Err(ReadFailed::OutOfMemory(error));
+    }
+    match reader.stopped() {
+        Some(refusal) => Err(ReadFailed::Text(refusal)),
+        None => Ok(count + piece.len()),
+    }
+}
+
+// Feeds what the text may still have of a piece that goes beyond.
+fn feed_last(reader: &mut TextReader, count: usize, piece: &[u8]) -> Result<usize, ReadFailed>
+    requires within { count ≤ MOST_BYTES }
+    requires lines { reader.old.state.lines ≤ count }
+    requires beyond { MOST_BYTES - count < length piece.now }
+    ensures { FeedsOn reader.old count piece.now reader.new result }
+{
+    if let Err(error) = reader.feed(&piece[..MOST_BYTES - count]) {
+        return Err(ReadFailed::OutOfMemory(error));
+    }
+    let refusal = match reader.stopped() {
+        Some(refusal) => refusal,
+        None => Refusal::TextTooLong {
+            line: reader.lines() + 1,
+        },
+    };
+    Err(ReadFailed::Text(refusal))
+}
