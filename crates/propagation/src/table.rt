@@ -83,12 +83,13 @@ fn agrees(alloc: Global, first: Pair, second: Pair, start: i32) -> Result<bool, 
 {
     let formula = formula_of(
         alloc,
+        3,
         &[first.one, first.other],
         &[second.one, second.other],
     )?;
     let arena = arena_of(alloc, &formula)?;
-    let mut trail = Trail::make(alloc, 4)?;
-    let mut propagator = Propagator::make(alloc, &arena, 4)?;
+    let mut trail = Trail::make(alloc, 3)?;
+    let mut propagator = Propagator::make(alloc, &arena, 3)?;
     trail.decide(start);
     let quiet = propagator.propagate(&arena, &mut trail) == Propagated::Quiet;
     let set = closure(first, second, start);

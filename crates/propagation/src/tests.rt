@@ -11,24 +11,26 @@ use sat_terms::{Clause, Formula, Items};
 use std::alloc::{AllocError, Global};
 use std::test::Fail;
 
-/// The formula over the variables 1 to 4 with these two clauses.
+/// The formula over the variables 1 to `variables` with these two clauses.
 pub(crate) fn formula_of(
     alloc: Global,
+    variables: u32,
     first: &[i32],
     second: &[i32],
 ) -> Result<Formula, AllocError>
-    requires first { All (IsLiteralOf 4) first.now }
-    requires second { All (IsLiteralOf 4) second.now }
+    requires small { variables ≤ 4 }
+    requires first { All (IsLiteralOf variables) first.now }
+    requires second { All (IsLiteralOf variables) second.now }
     requires few_first { length first.now ≤ 4 }
     requires few_second { length second.now ≤ 4 }
     ensures formula { IfOk result (λ formula. IsFormula formula.variables formula.clauses) }
-    ensures variables { IfOk result (λ formula. formula.variables ≡ 4) }
+    ensures variables { IfOk result (λ formula. formula.variables ≡ variables) }
 {
     let mut clauses = Vec::new(alloc);
     clauses.push(Clause::from_lits(alloc, first)?)?;
     clauses.push(Clause::from_lits(alloc, second)?)?;
     Ok(Formula {
-        variables: 4,
+        variables,
         clauses: Items::from_vec(clauses),
     })
 }
@@ -43,10 +45,10 @@ pub(crate) fn arena_of(alloc: Global, formula: &Formula) -> Result<Arena, AllocE
 
 #[test]
 fn one_literal_implies_the_next(rt: HostRuntime) -> Result<(), Fail> {
-    let formula = formula_of(rt.alloc(), &[1, 2], &[-2, 3])?;
+    let formula = formula_of(rt.alloc(), 3, &[1, 2], &[-2, 3])?;
     let arena = arena_of(rt.alloc(), &formula)?;
-    let mut trail = Trail::make(rt.alloc(), 4)?;
-    let mut propagator = Propagator::make(rt.alloc(), &arena, 4)?;
+    let mut trail = Trail::make(rt.alloc(), 3)?;
+    let mut propagator = Propagator::make(rt.alloc(), &arena, 3)?;
     trail.decide(-1);
     assert!(rt; propagator.propagate(&arena, &mut trail) == Propagated::Quiet);
     let decided = Item {
@@ -72,7 +74,7 @@ fn one_literal_implies_the_next(rt: HostRuntime) -> Result<(), Fail> {
 
 #[test]
 fn what_needs_no_decision_stands_on_level_zero(rt: HostRuntime) -> Result<(), Fail> {
-    let formula = formula_of(rt.alloc(), &[-3, 2], &[3])?;
+    let formula = formula_of(rt.alloc(), 4, &[-3, 2], &[3])?;
     let arena = arena_of(rt.alloc(), &formula)?;
     let mut trail = Trail::make(rt.alloc(), 4)?;
     let mut propagator = Propagator::make(rt.alloc(), &arena, 4)?;
@@ -95,8 +97,9 @@ fn what_needs_no_decision_stands_on_level_zero(rt: HostRuntime) -> Result<(), Fa
 
 #[test]
 fn two_clauses_cannot_both_hold(rt: HostRuntime) -> Result<(), Fail> {
-    let formula = formula_of(rt.alloc(), &[2, 4], &[2, -4])?;
+    let formula = formula_of(rt.alloc(), 4, &[2, 4], &[2, -4])?;
     let mut arena = arena_of(rt.alloc(), &formula)?;
+    assert_eq!(rt; (arena.len(), arena.base()), (2, 2));
     let mut trail = Trail::make(rt.alloc(), 4)?;
     let mut propagator = Propagator::make(rt.alloc(), &arena, 4)?;
     trail.decide(-1);
@@ -109,6 +112,7 @@ fn two_clauses_cannot_both_hold(rt: HostRuntime) -> Result<(), Fail> {
     );
     assert!(rt; arena.has_room(1));
     let id = arena.add(&[2])?;
+    assert_eq!(rt; id, 2);
     propagator.learn(&arena, &mut trail, id)?;
     assert_eq!(rt; trail.items().len(), 3);
     Ok(())
@@ -116,7 +120,7 @@ fn two_clauses_cannot_both_hold(rt: HostRuntime) -> Result<(), Fail> {
 
 #[test]
 fn a_clause_with_a_pair_implies_nothing(rt: HostRuntime) -> Result<(), Fail> {
-    let formula = formula_of(rt.alloc(), &[1, -1], &[2, 3, -3])?;
+    let formula = formula_of(rt.alloc(), 4, &[1, -1], &[2, 3, -3])?;
     let arena = arena_of(rt.alloc(), &formula)?;
     let mut trail = Trail::make(rt.alloc(), 4)?;
     let mut propagator = Propagator::make(rt.alloc(), &arena, 4)?;
