@@ -6,6 +6,7 @@ mod notes;
 mod status;
 mod words;
 
+pub use dimacs_front::TextRefused;
 pub use enumerate::{enumerate_alone, run};
 pub use notes::write_note;
 pub use status::{Ended, Status};

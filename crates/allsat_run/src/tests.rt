@@ -1,6 +1,5 @@
 //! Whole runs over memory: the listings of worked examples byte for byte, and faults in mid-stream.
-use crate::{Ended, Status, Words, run};
-use dimacs_front::TextRefused;
+use crate::{Ended, Status, TextRefused, Words, run};
 use fault_io::{BytesIn, BytesOut};
 use std::alloc::{AllocError, Global};
 use std::sync::Wait;

@@ -1,4 +1,4 @@
-use Rattle.std.proofs.Common.{[], sym, subst, ℕ, List}
+use Rattle.std.proofs.Common.{[], sym, subst}
 use Rattle.cube_text.specs.Buffered.{Wrote}
 use Rattle.cube_text.proofs.Handing.{Wrote-nil}
 use Rattle.allsat_run.specs.Status.{note_of}
