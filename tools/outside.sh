@@ -42,10 +42,13 @@ printf '\377' > "$work/word"
 expect 'a word that is no text is refused' 1 'allsat: words refused' ''
 
 printf 'p cnf 2 1\n1 3 0\n' | ./allsat enumerate > "$work/out" 2> "$work/notes"; status=$?
-expect 'a variable above the header is refused' 2 'allsat: input refused: 20 NotBuilt line 1' ''
+expect 'a variable above the header is refused' 2 'allsat: input refused: 6 VariableTooLarge line 2' ''
 
 ./allsat enumerate < /dev/null > "$work/out" 2> "$work/notes"; status=$?
-expect 'the empty text is refused' 2 'allsat: input refused: 20 NotBuilt line 1' ''
+expect 'the empty text is refused' 2 'allsat: input refused: 4 NoHeader line 1' ''
+
+printf 'p cnf 2 1\n1 2 0\n-1 0' | ./allsat enumerate > "$work/out" 2> "$work/notes"; status=$?
+expect 'a clause too many is refused with both numbers' 2 'allsat: input refused: 8 ClauseCount line 3 said 1 found 2' ''
 
 ./allsat enumerate < "$work" > "$work/out" 2> "$work/notes"; status=$?
 expect 'a directory as standard input is a read fault' 5 'allsat: read fault line 1' ''
@@ -70,8 +73,9 @@ for example in examples/*.cnf; do
     fi
 done
 if command -v python3 > /dev/null; then
-    tools/random_formulas.py 200 || wrong=1
+    tools/test_checker.py || wrong=1
+    tools/random_texts.py 300 || wrong=1
 else
-    echo 'skipped: no python3 here to check random formulas'
+    echo 'skipped: no python3 here to check random texts'
 fi
 exit "$wrong"

@@ -1,3 +1,2 @@
-pub mod Completeness
 pub mod NoteLemmas
 pub mod WordLemmas

@@ -1,14 +1,14 @@
 -- What a run answers, by what it took from its input and put into its output.
-use Rattle.std.specs.Prelude.{◌≡◌, ◌⊎◌, ℕ, Bool, true, false, Option, Some, List, [], ℤ}
-use Rattle.std.specs.List.{range_with_len}
+use Rattle.std.specs.Prelude.{◌≡◌, ◌⊎◌, ℕ, Bool, true, false, Option, Some, Result, Ok, Err, List, [], ℤ}
 use Rattle.fault_io.specs.Bytes.{Consumes, Appends, AppendsPrefix, Keeps}
 use Rattle.fault_io.specs.Faults.{Rose}
-use Rattle.sat_terms.specs.declared.subject.Formula.{Formula}
 use Rattle.sat_terms.specs.RightList.{IsRightList}
 use Rattle.cube_text.specs.Listing.{listing}
-use Rattle.dimacs_front.specs.Early.{early}
-use Rattle.dimacs_front.specs.Reads.{IsText, IsNoText, IsFault}
-use Rattle.dimacs_front.specs.declared.refused.TextRefused.TheVariants.{NotBuilt}
+use Rattle.dimacs_front.specs.Whole.{reads}
+use Rattle.dimacs_front.specs.Answers.{IsInput, IsRefused, IsFaultIn, TellsText}
+use Rattle.dimacs_front.specs.declared.input.Input.{Input}
+use Rattle.dimacs_front.specs.declared.refused.TextRefused.{TextRefused}
+use Rattle.dimacs_front.specs.declared.refused.ReadRefused.TheVariants.{Text}
 use Rattle.allsat_run.specs.declared.status.Status.{Status}
 use Rattle.allsat_run.specs.declared.status.Status.TheVariants.{Finished, WordsRefused, InputRefused, OutOfMemory, ReadFault, WriteFault}
 use Rattle.allsat_run.specs.Status.{note_of}
@@ -26,11 +26,11 @@ source_side bytes faults = record { bytes = bytes; faults = faults; finished = f
 abbrev pub sink_side : Option (List ℕ) → ℕ → Bool → Side
 sink_side bytes faults finished = record { bytes = bytes; faults = faults; finished = finished }
 
--- a right list of the formula that all the bytes taken say, with every variable shown
+-- a right list of the input that all the bytes taken say
 pub record Solves (left : Option (List ℕ)) (taken : List ℕ) (cubes : List (List ℤ)) : Type 0 where
-  pub formula : Formula
-  pub text : IsText left taken formula
-  pub right : IsRightList formula.clauses (range_with_len 1 formula.variables) cubes
+  pub input : Input
+  pub text : IsInput left taken input
+  pub right : IsRightList input.subject.formula.clauses input.subject.shown cubes
 
 -- the listing of such a list is out, whole, and the output is finished
 pub record IsFinished (left : Option (List ℕ)) (taken : List ℕ) (before now : Side) : Type 0 where
@@ -46,13 +46,18 @@ pub record IsCutOff (left : Option (List ℕ)) (taken : List ℕ) (before now : 
   pub written : AppendsPrefix before.bytes now.bytes (listing cubes)
   pub failed : Rose before.faults now.faults
 
+-- the bytes taken are refused, and all the bytes that the input had are, where it tells them
+pub record IsRefusedText (had left : Option (List ℕ)) (taken : List ℕ) (refused : TextRefused) : Type 0 where
+  pub by_taken : IsRefused left taken refused
+  pub by_all : TellsText had (Err (Text refused))
+
 -- what the status says of the bytes taken and of the output; after a refusal nothing is out
 abbrev pub Says : Side → Side → List ℕ → Side → Side → Status → Type 0
 Says in_before in_now taken before now Finished = IsFinished in_now.bytes taken before now
 Says in_before in_now taken before now WordsRefused = (taken ≡ []) × Keeps before.bytes now.bytes
-Says in_before in_now taken before now (InputRefused (NotBuilt line)) = IsNoText in_now.bytes taken line × Keeps before.bytes now.bytes
+Says in_before in_now taken before now (InputRefused r) = IsRefusedText in_before.bytes in_now.bytes taken r × Keeps before.bytes now.bytes
 Says in_before in_now taken before now OutOfMemory = Keeps before.bytes now.bytes
-Says in_before in_now taken before now (ReadFault line) = IsFault in_before.faults in_now.faults taken line × Keeps before.bytes now.bytes
+Says in_before in_now taken before now (ReadFault line) = IsFaultIn in_before.faults in_now.faults taken line × Keeps before.bytes now.bytes
 Says in_before in_now taken before now WriteFault = IsCutOff in_now.bytes taken before now
 
 -- some bytes were taken, and the status is right for them
@@ -61,11 +66,16 @@ pub record IsAnswer (in_before in_now before now : Side) (status : Status) : Typ
   pub consumed : Consumes in_before.bytes in_now.bytes taken
   pub says : Says in_before in_now taken before now status
 
--- an early text, and neither count of faults rose: the run is finished, or there was no memory
+-- how a run ends on a text that says this, where no stream fails and there is memory
+abbrev pub status_of : Result Input TextRefused → Status
+status_of (Ok input) = Finished
+status_of (Err refused) = InputRefused refused
+
+-- neither count of faults rose: the run ends as the text says, or there was no memory
 abbrev pub IsComplete : Side → Side → Side → Side → Status → Type 0
 IsComplete in_before in_now before now status =
-    (text : List ℕ) (formula : Formula) → in_before.bytes ≡ Some text → early text ≡ Some formula →
-    ¬ Rose in_before.faults in_now.faults → ¬ Rose before.faults now.faults → (status ≡ Finished) ⊎ (status ≡ OutOfMemory)
+    (text : List ℕ) → in_before.bytes ≡ Some text →
+    ¬ Rose in_before.faults in_now.faults → ¬ Rose before.faults now.faults → (status ≡ status_of (reads text)) ⊎ (status ≡ OutOfMemory)
 
 -- The same two of a source with these meanings (the bytes left, the count of faults) and a sink with these (the bytes held,
 -- the count of faults, whether it is finished), of which each is given as it was and as it is.

@@ -2,7 +2,8 @@
 use Rattle.std.specs.Prelude.{ℕ, List, [], ◌∷◌, ◌++◌, codes}
 use Rattle.std.specs.Fmt.{decimal}
 use Rattle.dimacs_front.specs.declared.refused.TextRefused.{TextRefused}
-use Rattle.dimacs_front.specs.Refusals.{line_of}
+use Rattle.dimacs_front.specs.declared.refused.TextRefused.TheVariants.{ClauseCount}
+use Rattle.dimacs_front.specs.Numbering.{number_of, name_of, line_of}
 use Rattle.allsat_run.specs.declared.status.Status.{Status}
 use Rattle.allsat_run.specs.declared.status.Status.TheVariants.{Finished, WordsRefused, InputRefused, OutOfMemory, ReadFault, WriteFault}
 
@@ -19,9 +20,14 @@ code_of WriteFault = 6
 abbrev pub number_line : ℕ → List ℕ
 number_line n = decimal n ++ 10 ∷ []
 
--- the number, the name and the line of a refusal
+-- behind the line of a refused number of clauses: the header's number, and how many there are
+abbrev pub counts_of : TextRefused → List ℕ
+counts_of (ClauseCount line said found) = codes " said " ++ decimal said ++ codes " found " ++ decimal found
+counts_of r = []
+
+-- the number, the name and the line of a refusal, and the end of the line
 abbrev pub refusal_text : TextRefused → List ℕ
-refusal_text r = codes "20 NotBuilt line " ++ number_line (line_of r)
+refusal_text r = decimal (number_of r) ++ codes " " ++ name_of r ++ codes " line " ++ decimal (line_of r) ++ counts_of r ++ 10 ∷ []
 
 -- the line on the notes; a finished run puts none
 abbrev pub note_of : Status → List ℕ

@@ -46,7 +46,7 @@ pub fn enumerate_alone<S: Source, K: Sink>(alloc: Global, input: &mut S, out: &m
     ensures complete { Completes S.left S.faults K.held K.faults K.finished input.old input.new out.old out.new result }
 {
     let subject = match read_subject(alloc, input) {
-        Ok(subject) => subject,
+        Ok(input) => input.subject,
         Err(ReadRefused::Text(refused)) => return Status::InputRefused(refused),
         Err(ReadRefused::ReadFault(line)) => return Status::ReadFault(line),
         Err(ReadRefused::OutOfMemory(_)) => return Status::OutOfMemory,

@@ -1,7 +1,8 @@
 //! The line that a run puts on its notes.
 ghost use Rattle.std.specs.Prelude.{◌≡◌, ◌++◌};
 ghost use Rattle.allsat_run.specs.Run.{Notes};
-ghost use Rattle.allsat_run.specs.Status.{note_of, refusal_text, number_line};
+ghost use Rattle.std.specs.Fmt.{decimal};
+ghost use Rattle.allsat_run.specs.Status.{note_of, refusal_text, counts_of, number_line};
 ghost use Rattle.cube_text.specs.Buffered.{HandsIn};
 
 use crate::Status;
@@ -39,19 +40,43 @@ fn put_note<N: Sink>(status: &Status, buffer: &mut Buffered, notes: &mut N)
     }
 }
 
-/// Hands in the number, the name and the line of a refusal.
+/// Hands in the number, the name and the line of a refusal, and the end of the line.
 fn put_refusal<N: Sink>(refused: &TextRefused, buffer: &mut Buffered, notes: &mut N)
     ensures { HandsIn N.held N.faults notes.old buffer.old notes.new buffer.new (refusal_text refused.now) }
 {
-    buffer.put(b"20 NotBuilt line ", notes);
-    put_number_line(refused.line(), buffer, notes);
+    put_number(u64::from(refused.number()), buffer, notes);
+    buffer.put(b" ", notes);
+    buffer.put(refused.name().as_bytes(), notes);
+    buffer.put(b" line ", notes);
+    put_number(refused.line(), buffer, notes);
+    put_counts(refused, buffer, notes);
+    buffer.put(b"\n", notes);
+}
+
+/// Hands in both numbers of a refused number of clauses.
+fn put_counts<N: Sink>(refused: &TextRefused, buffer: &mut Buffered, notes: &mut N)
+    ensures { HandsIn N.held N.faults notes.old buffer.old notes.new buffer.new (counts_of refused.now) }
+{
+    if let TextRefused::ClauseCount { said, found, .. } = refused {
+        buffer.put(b" said ", notes);
+        put_number(u64::from(*said), buffer, notes);
+        buffer.put(b" found ", notes);
+        put_number(u64::from(*found), buffer, notes);
+    }
 }
 
 /// Hands in a number and the end of the line.
 fn put_number_line<N: Sink>(number: u64, buffer: &mut Buffered, notes: &mut N)
     ensures { HandsIn N.held N.faults notes.old buffer.old notes.new buffer.new (number_line number) }
 {
+    put_number(number, buffer, notes);
+    buffer.put(b"\n", notes);
+}
+
+/// Hands in a number.
+fn put_number<N: Sink>(number: u64, buffer: &mut Buffered, notes: &mut N)
+    ensures { HandsIn N.held N.faults notes.old buffer.old notes.new buffer.new (decimal number) }
+{
     let mut digits = itoa::Buffer::new();
     buffer.put(digits.format(number).as_bytes(), notes);
-    buffer.put(b"\n", notes);
 }

@@ -109,20 +109,150 @@ fn assignments_two_variables_apart_are_listed_one_by_one(rt: HostRuntime) -> Res
 }
 
 #[test]
-fn a_text_of_another_form_is_refused(rt: HostRuntime) -> Result<(), Fail> {
-    let texts: [&[u8]; 2] = [b"c x\np cnf 0 0\n", b"p cnf 2 1\n1 3 0\n"];
-    for text in texts {
+fn a_hidden_variable_takes_what_value_it_can(rt: HostRuntime) -> Result<(), Fail> {
+    let text = b"p cnf 2 2\nc p show 1 0\n1 2 0\n-1 -2 0\n";
+    assert!(rt; lists(&run_on(&rt, text)?, b"v -1 0\nv 1 0\ns ALL\n"));
+    Ok(())
+}
+
+#[test]
+fn with_nothing_shown_a_formula_with_a_solution_gives_the_empty_cube(
+    rt: HostRuntime,
+) -> Result<(), Fail> {
+    assert!(rt;
+        lists(
+            &run_on(&rt, b"p cnf 1 1\nc p show 0\n1 0\n")?,
+            b"v 0\ns ALL\n"
+        )
+    );
+    Ok(())
+}
+
+#[test]
+fn with_nothing_shown_a_contradiction_gives_no_cube(rt: HostRuntime) -> Result<(), Fail> {
+    assert!(rt;
+        lists(
+            &run_on(&rt, b"p cnf 1 2\nc p show 0\n1 0\n-1 0\n")?,
+            b"s ALL\n"
+        )
+    );
+    Ok(())
+}
+
+#[test]
+fn a_cube_is_as_short_as_the_chosen_hidden_values_allow(rt: HostRuntime) -> Result<(), Fail> {
+    let text = b"p cnf 4 2\nc p show 1 2 0\n2 4 0\n2 -4 0\n";
+    assert!(rt; lists(&run_on(&rt, text)?, b"v -1 2 0\nv 1 2 0\ns ALL\n"));
+    Ok(())
+}
+
+#[test]
+fn show_lines_add_up_and_weight_lines_are_passed_over(rt: HostRuntime) -> Result<(), Fail> {
+    let text = b"c t pmc\np cnf 4 2\nc p show 1 2 0\n1 3 0\nc p weight 1 0.4 0\n\
+        c a comment between clauses\n-2 4 0\nc p show 2 0\n";
+    let listing = b"v -1 -2 0\nv -1 2 0\nv 1 -2 0\nv 1 2 0\ns ALL\n";
+    assert!(rt; lists(&run_on(&rt, text)?, listing));
+    Ok(())
+}
+
+#[test]
+fn clauses_span_and_share_lines_and_a_percent_line_ends_them(rt: HostRuntime) -> Result<(), Fail> {
+    let text = b"c from a benchmark page\np cnf 3  3 \n 1\n-2\n0\n2 3 0 -1 0\n%\n0\n";
+    assert!(rt; lists(&run_on(&rt, text)?, b"v -1 -2 3 0\ns ALL\n"));
+    Ok(())
+}
+
+#[test]
+fn nothing_behind_a_percent_line_is_judged(rt: HostRuntime) -> Result<(), Fail> {
+    assert!(rt;
+        lists(
+            &run_on(&rt, b"p cnf 1 1\n1 0\n%\njunk\n")?,
+            b"v 1 0\ns ALL\n"
+        )
+    );
+    Ok(())
+}
+
+#[test]
+fn one_shown_variable_of_many_is_listed_alone(rt: HostRuntime) -> Result<(), Fail> {
+    assert!(rt;
+        lists(
+            &run_on(&rt, b"p cnf 4097 0\nc p show 4097 0\n")?,
+            b"v 0\ns ALL\n"
+        )
+    );
+    Ok(())
+}
+
+#[test]
+fn a_comment_of_another_kind_of_text_is_a_comment(rt: HostRuntime) -> Result<(), Fail> {
+    assert!(rt;
+        lists(
+            &run_on(&rt, b"p cnf 2 0\nc p open 2 1 0\n")?,
+            b"v 0\ns ALL\n"
+        )
+    );
+    Ok(())
+}
+
+#[test]
+fn a_refused_text_is_named_with_its_line(rt: HostRuntime) -> Result<(), Fail> {
+    let texts: [(&[u8], TextRefused, &[u8]); 8] = [
+        (
+            b"",
+            TextRefused::NoHeader { line: 1 },
+            b"allsat: input refused: 4 NoHeader line 1\n",
+        ),
+        (
+            b"p cnf 2 1\n1 3 0\n",
+            TextRefused::VariableTooLarge { line: 2 },
+            b"allsat: input refused: 6 VariableTooLarge line 2\n",
+        ),
+        (
+            b"p cnf 1 1\n1\n%\n0\n",
+            TextRefused::Unfinished { line: 4 },
+            b"allsat: input refused: 7 Unfinished line 4\n",
+        ),
+        (
+            b"p cnf 2 2\n1 0\n2\n",
+            TextRefused::Unfinished { line: 3 },
+            b"allsat: input refused: 7 Unfinished line 3\n",
+        ),
+        (
+            b"p cnf 2 2\n1 0\n",
+            TextRefused::ClauseCount {
+                line: 2,
+                said: 2,
+                found: 1,
+            },
+            b"allsat: input refused: 8 ClauseCount line 2 said 2 found 1\n",
+        ),
+        (
+            b"p cnf 1 0\n1 0\n",
+            TextRefused::ClauseCount {
+                line: 2,
+                said: 0,
+                found: 1,
+            },
+            b"allsat: input refused: 8 ClauseCount line 2 said 0 found 1\n",
+        ),
+        (
+            b"c p show 3 0\np cnf 2 0\n",
+            TextRefused::ShowBad { line: 1 },
+            b"allsat: input refused: 9 ShowBad line 1\n",
+        ),
+        (
+            b"c allsat saved 1\np cnf 0 0\nc p end\n",
+            TextRefused::NotBuilt { line: 1 },
+            b"allsat: input refused: 20 NotBuilt line 1\n",
+        ),
+    ];
+    for (text, refused, note) in texts {
         let ran = run_on(&rt, text)?;
-        assert_eq!(rt;
-            ran.ended.status,
-            Status::InputRefused(TextRefused::NotBuilt { line: 1 })
-        );
+        assert_eq!(rt; ran.ended.status, Status::InputRefused(refused));
         assert_eq!(rt; ran.ended.status.code(), 2);
         assert_eq!(rt; ran.out.bytes().len(), 0);
-        assert_eq!(rt;
-            ran.notes.bytes(),
-            b"allsat: input refused: 20 NotBuilt line 1\n".as_slice()
-        );
+        assert_eq!(rt; ran.notes.bytes(), note);
     }
     Ok(())
 }
@@ -194,13 +324,13 @@ fn a_read_that_fails_writes_nothing(rt: HostRuntime) -> Result<(), Fail> {
 fn notes_that_fail_change_nothing_else(rt: HostRuntime) -> Result<(), Fail> {
     let alloc = rt.alloc();
     let words = enumerate(alloc)?;
-    let mut input = BytesIn::make(b"c x\n".to_vec(alloc)?, 4, Vec::new(alloc));
+    let mut input = BytesIn::make(b"1 0\n".to_vec(alloc)?, 4, Vec::new(alloc));
     let mut out = BytesOut::make(alloc, 100, 4, Vec::new(alloc))?;
     let mut notes = BytesOut::make(alloc, 100, 4, [1u64].to_vec(alloc)?)?;
     let ended = run(&rt, alloc, &words, &mut input, &mut out, &mut notes);
     assert_eq!(rt;
         ended.status,
-        Status::InputRefused(TextRefused::NotBuilt { line: 1 })
+        Status::InputRefused(TextRefused::BadStart { line: 1 })
     );
     assert_eq!(rt; out.bytes().len(), 0);
     assert_eq!(rt; notes.bytes().len(), 0);

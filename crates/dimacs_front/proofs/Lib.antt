@@ -1,11 +1,7 @@
-pub mod Behind
-pub mod Header
+pub mod FewNames
 pub mod HeaderLine
 pub mod ShowLine
 pub mod ShownSteps
-pub mod Sizes
 pub mod Sound
 pub mod Stopping
 pub mod Taking
-pub mod TakingText
-pub mod Variables

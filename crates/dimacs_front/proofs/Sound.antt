@@ -1,4 +1,4 @@
--- The sizes of a formula that is read, and of which variables its literals are.
+-- The sizes of a formula that is read, of which variables its literals are, and how many names are kept.
 use Rattle.std.proofs.Common.{◌≡◌, ℕ, ◌+◌, ◌<◌, ◌≤◌, Bool, true, false, not, cond, eqb, leb, ltb, List, [], ◌∷◌, length, ℤ, nat_abs, Option, Some, None, Result, Ok, Err, IfOk, refl, sym, subst, arith}
 use Rattle.std.specs.List.{All, sum_by, range_with_len}
 use Rattle.std.specs.List.Sorted.{IsStrictlyIncreasing}
@@ -13,19 +13,21 @@ use Rattle.dimacs_tokens.specs.Numbers.{value_of}
 use Rattle.dimacs_tokens.specs.Seen.{SeenView, seen, begins_with}
 use Rattle.dimacs_tokens.specs.Reading.{eats, line_read, lines_read}
 use Rattle.sat_terms.specs.Literals.{IsLiteralOf}
-use Rattle.dimacs_front.specs.declared.refusals.Refusal.{Refusal}
-use Rattle.dimacs_front.specs.declared.refusals.Refusal.TheVariants.{HeaderTwice, VariableTooLarge, ShowBad, TooManyVariables, TooManyClauses, TooManyLiterals}
-use Rattle.dimacs_front.specs.declared.refusals.ReadFailed.{ReadFailed}
+use Rattle.dimacs_front.specs.declared.refused.TextRefused.{TextRefused}
+use Rattle.dimacs_front.specs.declared.refused.TextRefused.TheVariants.{HeaderTwice, VariableTooLarge, ShowBad, TooManyVariables, TooManyClauses, TooManyLiterals}
+use Rattle.dimacs_front.specs.declared.refused.ReadRefused.{ReadRefused}
 use Rattle.dimacs_front.specs.declared.line_place.LinePlace.{LinePlace}
 use Rattle.dimacs_front.specs.declared.line_place.LinePlace.TheVariants.{Beginning, HeaderWord, HeaderVariables, HeaderClauses, HeaderEnd, Clauses, Comment, CommentParted, CommentNamed, Show, ShowEnd, Passed, Over, Refused}
+use Rattle.dimacs_front.specs.declared.shown.Named.{Named}
 use Rattle.dimacs_front.specs.declared.input.Input.{Input}
-use Rattle.dimacs_front.specs.Early.{natural}
+use Rattle.dimacs_front.specs.LinePlaces.{natural}
 use Rattle.dimacs_front.specs.Limits.{most_bytes, most_variables, most_clauses, most_literals, most_shown}
 use Rattle.dimacs_front.specs.LinePlaces.{header_begun, comment_begun}
-use Rattle.dimacs_front.specs.Grammar.{WrittenView, nothing_written, clause_ended, literal_added, StateView, at_place, refuse, in_clauses, zero_eaten, literal_eaten, number_eaten, show_ended, variable_named, shown_eaten, below_begun, line_begun, eaten_at, eaten, closed_at, closed}
+use Rattle.dimacs_front.specs.Grammar.{WrittenView, nothing_written, clause_ended, literal_added, StateView, at_place, refuse, in_clauses, zero_eaten, literal_eaten, number_eaten, show_ended, variable_named, shown_eaten, below_begun, line_begun, eaten_at, eaten, below_header, closed_at, closed}
 use Rattle.dimacs_front.specs.Ending.{end_refusal, or_named, shown_of, input_of, with_shown, by_end, end_of}
 use Rattle.dimacs_front.specs.Whole.{TextView, text_at_start, eat_token, close_line, text_after, last_line, answer_by, answer, reads}
 use Rattle.dimacs_front.specs.Answers.{ReadsText, IsWithinLimits}
+use Rattle.dimacs_front.proofs.FewNames.{AreFew, none_few, once_few, few_length}
 
 -- what holds of the formula behind every token
 pub record IsSound (w : WrittenView) : Type 0 where
@@ -46,7 +48,8 @@ nothing_sound v c h = record {
   few_literals = omega arith;
 }
 
-ended_sound : (w : WrittenView) → IsSound w → length w.clauses < most_clauses → IsSound (clause_ended w)
+ended_sound : (w : WrittenView) → IsSound w → length w.clauses < most_clauses →
+    IsSound (clause_ended w)
 ended_sound w s h = record {
   within = s.within;
   named = All-push (All (IsLiteralOf w.variables)) w.clauses w.open_clause s.named s.open_named;
@@ -56,7 +59,8 @@ ended_sound w s h = record {
   few_literals = s.few_literals;
 }
 
-added_sound : (w : WrittenView) (l : ℤ) → IsSound w → 0 < nat_abs l → nat_abs l ≤ w.variables → w.literals < most_literals → IsSound (literal_added w l)
+added_sound : (w : WrittenView) (l : ℤ) → IsSound w → 0 < nat_abs l → nat_abs l ≤ w.variables →
+    w.literals < most_literals → IsSound (literal_added w l)
 added_sound w l s some le h = record {
   within = s.within;
   named = s.named;
@@ -66,45 +70,72 @@ added_sound w l s some le h = record {
   few_literals = omega arith;
 }
 
+-- what holds of the state
+abbrev IsSoundState : StateView → Type 0
+IsSoundState s = IsSound s.formula × AreFew s.named
+
 -- a token among the clauses
-zero_sound : (n : ℕ) (s : StateView) (q : Bool) → ltb (length s.formula.clauses) most_clauses ≡ q → IsSound s.formula → IsSound (cond q (in_clauses s (clause_ended s.formula)) (refuse s (TooManyClauses n))).formula
-zero_sound n s true e h = ended_sound s.formula h (ltb-true (length s.formula.clauses) most_clauses e)
+zero_sound : (n : ℕ) (s : StateView) (q : Bool) → ltb (length s.formula.clauses) most_clauses ≡ q →
+    IsSoundState s →
+    IsSoundState (cond q (in_clauses s (clause_ended s.formula)) (refuse s (TooManyClauses n)))
+zero_sound n s true e h =
+    (ended_sound s.formula h.0 (ltb-true (length s.formula.clauses) most_clauses e), h.1)
 zero_sound n s false e h = h
 
-literal_sound : (n : ℕ) (s : StateView) (l : ℤ) (m q : Bool) → leb (nat_abs l) s.formula.variables ≡ m → ltb s.formula.literals most_literals ≡ q → 0 < nat_abs l → IsSound s.formula → IsSound (cond m (cond q (in_clauses s (literal_added s.formula l)) (refuse s (TooManyLiterals n))) (refuse s (VariableTooLarge n))).formula
-literal_sound n s l true true e f some h = added_sound s.formula l h some (leb-true (nat_abs l) s.formula.variables e) (ltb-true s.formula.literals most_literals f)
+literal_sound : (n : ℕ) (s : StateView) (l : ℤ) (m q : Bool) →
+    leb (nat_abs l) s.formula.variables ≡ m → ltb s.formula.literals most_literals ≡ q →
+    0 < nat_abs l → IsSoundState s →
+    IsSoundState (cond m (cond q (in_clauses s (literal_added s.formula l)) (refuse s (TooManyLiterals n)))
+    (refuse s (VariableTooLarge n)))
+literal_sound n s l true true e f some h =
+    let le : nat_abs l ≤ s.formula.variables = leb-true (nat_abs l) s.formula.variables e in
+    (added_sound s.formula l h.0 some le (ltb-true s.formula.literals most_literals f), h.1)
 literal_sound n s l true false e f some h = h
 literal_sound n s l false q e f some h = h
 
-value_sound : (n : ℕ) (s : StateView) (l : ℤ) (z : Bool) → eqb (nat_abs l) 0 ≡ z → IsSound s.formula → IsSound (cond z (zero_eaten n s) (literal_eaten n s l)).formula
+value_sound : (n : ℕ) (s : StateView) (l : ℤ) (z : Bool) → eqb (nat_abs l) 0 ≡ z → IsSoundState s →
+    IsSoundState (cond z (zero_eaten n s) (literal_eaten n s l))
 value_sound n s l true e h = zero_sound n s (ltb (length s.formula.clauses) most_clauses) refl h
 value_sound n s l false e h =
     let some : nat_abs l ≡ 0 → ⊥ = eqb-false (nat_abs l) 0 e in
     literal_sound n s l (leb (nat_abs l) s.formula.variables) (ltb s.formula.literals most_literals) refl refl (omega arith) h
 
-number_sound : (n : ℕ) (s : StateView) (o : Option ℤ) → IsSound s.formula → IsSound (number_eaten n s o).formula
+number_sound : (n : ℕ) (s : StateView) (o : Option ℤ) → IsSoundState s →
+    IsSoundState (number_eaten n s o)
 number_sound n s None h = h
 number_sound n s (Some l) h = value_sound n s l (eqb (nat_abs l) 0) refl h
 
 -- of two states
-either_sound : (q : Bool) (s u : StateView) → IsSound s.formula → IsSound u.formula → IsSound (cond q s u).formula
+either_sound : (q : Bool) (s u : StateView) → IsSoundState s → IsSoundState u →
+    IsSoundState (cond q s u)
 either_sound true s u h k = h
 either_sound false s u h k = k
 
-shown_sound : (n : ℕ) (s : StateView) (o : Option ℕ) → IsSound s.formula → IsSound (shown_eaten n s o).formula
-shown_sound n s None h = h
-shown_sound n s (Some v) h =
-    either_sound (eqb v 0) (show_ended s) _ h (either_sound (leb v most_variables) (variable_named n s v) (refuse s (ShowBad n)) h h)
+shown_sound-at : (n : ℕ) (s : StateView) (v : ℕ) (z m : Bool) → eqb v 0 ≡ z →
+    leb v most_variables ≡ m → IsSoundState s →
+    IsSoundState (cond z (show_ended s) (cond m (variable_named n s v) (refuse s (ShowBad n))))
+shown_sound-at n s v true m e f h = h
+shown_sound-at n s v false true e f h =
+    let m : Named = record { variable = v; line = n } in
+    (h.0, once_few s.named m (eqb-false v 0 e) (leb-true v most_variables f) h.1)
+shown_sound-at n s v false false e f h = h
 
-begun_sound : (n : ℕ) (s : StateView) (t : SeenView) → IsSound s.formula → IsSound (line_begun n s t).formula
+shown_sound : (n : ℕ) (s : StateView) (o : Option ℕ) → IsSoundState s →
+    IsSoundState (shown_eaten n s o)
+shown_sound n s None h = h
+shown_sound n s (Some v) h = shown_sound-at n s v (eqb v 0) (leb v most_variables) refl refl h
+
+begun_sound : (n : ℕ) (s : StateView) (t : SeenView) → IsSoundState s →
+    IsSoundState (line_begun n s t)
 begun_sound n s t h =
-    let numbered : IsSound (number_eaten n s (value_of t.number)).formula = number_sound n s (value_of t.number) h in
+    let numbered : IsSoundState (number_eaten n s (value_of t.number)) = number_sound n s (value_of t.number) h in
     either_sound (begins_with t 99) (at_place s (comment_begun t)) _ h
     (either_sound s.started (below_begun n s t) (at_place s (header_begun n t))
     (either_sound (begins_with t 112) (refuse s (HeaderTwice n)) _ h (either_sound (begins_with t 37) (at_place s Over) _ h numbered))
     h)
 
-eaten_sound-at : (p : LinePlace) (n : ℕ) (s : StateView) (t : SeenView) → IsSound s.formula → IsSound (eaten_at p n s t).formula
+eaten_sound-at : (p : LinePlace) (n : ℕ) (s : StateView) (t : SeenView) → IsSoundState s →
+    IsSoundState (eaten_at p n s t)
 eaten_sound-at Beginning n s t h = begun_sound n s t h
 eaten_sound-at HeaderWord n s t h = h
 eaten_sound-at HeaderVariables n s t h = h
@@ -120,17 +151,22 @@ eaten_sound-at Passed n s t h = h
 eaten_sound-at Over n s t h = h
 eaten_sound-at (Refused r) n s t h = h
 
-eaten_sound : (n : ℕ) (s : StateView) (t : SeenView) → IsSound s.formula → IsSound (eaten n s t).formula
+eaten_sound : (n : ℕ) (s : StateView) (t : SeenView) → IsSoundState s → IsSoundState (eaten n s t)
 unfolding eaten
 eaten_sound n s t h = eaten_sound-at s.place n s t h
 
 -- the end of a line
-header_sound : (n : ℕ) (s : StateView) (v c : ℕ) (m : Bool) → leb v most_variables ≡ m → IsSound s.formula → IsSound (cond m (cond (leb c most_clauses) (record { place = Beginning; started = true; formula = nothing_written v c; given = s.given; named = s.named }) (refuse s (TooManyClauses n))) (refuse s (TooManyVariables n))).formula
+header_sound : (n : ℕ) (s : StateView) (v c : ℕ) (m : Bool) → leb v most_variables ≡ m →
+    IsSoundState s →
+    IsSoundState (cond m (cond (leb c most_clauses) (below_header s v c) (refuse s (TooManyClauses n)))
+    (refuse s (TooManyVariables n)))
 header_sound n s v c true e h =
-    either_sound (leb c most_clauses) (record { place = Beginning; started = true; formula = nothing_written v c; given = s.given; named = s.named }) (refuse s (TooManyClauses n)) (nothing_sound v c (leb-true v most_variables e)) h
+    either_sound (leb c most_clauses) (below_header s v c) (refuse s (TooManyClauses n))
+    (nothing_sound v c (leb-true v most_variables e), h.1) h
 header_sound n s v c false e h = h
 
-closed_sound-at : (p : LinePlace) (n : ℕ) (s : StateView) → IsSound s.formula → IsSound (closed_at p n s).formula
+closed_sound-at : (p : LinePlace) (n : ℕ) (s : StateView) → IsSoundState s →
+    IsSoundState (closed_at p n s)
 closed_sound-at Beginning n s h = h
 closed_sound-at HeaderWord n s h = h
 closed_sound-at HeaderVariables n s h = h
@@ -146,24 +182,26 @@ closed_sound-at Passed n s h = h
 closed_sound-at Over n s h = h
 closed_sound-at (Refused r) n s h = h
 
-closed_sound : (n : ℕ) (s : StateView) → IsSound s.formula → IsSound (closed n s).formula
+closed_sound : (n : ℕ) (s : StateView) → IsSoundState s → IsSoundState (closed n s)
 unfolding closed
 closed_sound n s h = closed_sound-at s.place n s h
 
-eats_sound : (j : TextView) (ts : List (List ℕ)) → IsSound j.state.formula → IsSound (eats eat_token j ts).state.formula
+eats_sound : (j : TextView) (ts : List (List ℕ)) → IsSoundState j.state →
+    IsSoundState (eats eat_token j ts).state
 unfolding eats
 eats_sound j [] h = h
 eats_sound j (t ∷ ts) h = eats_sound (eat_token j (seen t)) ts (eaten_sound (j.lines + 1) j.state (seen t) h)
 
-lines_sound : (j : TextView) (ls : List (List ℕ)) → IsSound j.state.formula → IsSound (lines_read eat_token close_line j ls).state.formula
+lines_sound : (j : TextView) (ls : List (List ℕ)) → IsSoundState j.state →
+    IsSoundState (lines_read eat_token close_line j ls).state
 unfolding lines_read
 lines_sound j [] h = h
 lines_sound j (l ∷ ls) h =
     let k : TextView = eats eat_token j (tokens l) in
     lines_sound (line_read eat_token close_line j l) ls (closed_sound (k.lines + 1) k.state (eats_sound j (tokens l) h))
 
-text_sound : (ls : List (List ℕ)) → IsSound (text_after ls).state.formula
-text_sound ls = lines_sound text_at_start ls (nothing_sound 0 0 (omega arith))
+text_sound : (ls : List (List ℕ)) → IsSoundState (text_after ls).state
+text_sound ls = lines_sound text_at_start ls (nothing_sound 0 0 (omega arith), none_few)
 
 -- the variables 1 to n
 range_rises : (a n : ℕ) → IsStrictlyIncreasing (range_with_len a n)
@@ -183,7 +221,8 @@ range_named n = λ k d lt.
     (omega arith, omega arith)
 
 -- the input of a text that ends
-shown_limits : (s : StateView) (vs : List ℕ) → vs ≡ shown_of s.given s.named s.formula.variables → length vs ≤ most_shown → IsSound s.formula → IsWithinLimits (input_of s.formula vs)
+shown_limits : (s : StateView) (vs : List ℕ) → vs ≡ shown_of s.given s.named s.formula.variables →
+    length vs ≤ most_shown → IsSound s.formula → IsWithinLimits (input_of s.formula vs)
 shown_limits s vs e le h =
     let p : ℕ → Bool = or_named (not s.given) s.named in
     let v : ℕ = s.formula.variables in
@@ -202,36 +241,49 @@ shown_limits s vs e le h =
       shown = le;
     }
 
-few_limits : (n : ℕ) (s : StateView) (input : Input) (vs : List ℕ) (q : Bool) → leb (length vs) most_shown ≡ q → vs ≡ shown_of s.given s.named s.formula.variables → IsSound s.formula → with_shown n s.formula (cond q (Some vs) None) ≡ Ok input → IsWithinLimits input
+few_limits : (n : ℕ) (s : StateView) (input : Input) (vs : List ℕ) (q : Bool) →
+    leb (length vs) most_shown ≡ q → vs ≡ shown_of s.given s.named s.formula.variables →
+    IsSound s.formula → with_shown n s.formula (cond q (Some vs) None) ≡ Ok input →
+    IsWithinLimits input
 few_limits n s input vs true e f h k =
     let same : input_of s.formula vs ≡ input = cc in
     subst IsWithinLimits same (shown_limits s vs f (leb-true (length vs) most_shown e) h)
 few_limits n s input vs false e f h k = absurd (cc)
 
-by_end_limits : (o : Option Refusal) (n : ℕ) (s : StateView) (input : Input) → IsSound s.formula → by_end o n s ≡ Ok input → IsWithinLimits input
+by_end_limits : (o : Option TextRefused) (n : ℕ) (s : StateView) (input : Input) →
+    IsSound s.formula → by_end o n s ≡ Ok input → IsWithinLimits input
 by_end_limits (Some r) n s input h k = absurd (cc)
 by_end_limits None n s input h k =
     let vs : List ℕ = shown_of s.given s.named s.formula.variables in
     few_limits n s input vs (leb (length vs) most_shown) refl refl h k
 
-end_limits : (n : ℕ) (s : StateView) (input : Input) → IsSound s.formula → end_of n s ≡ Ok input → IsWithinLimits input
+end_limits : (n : ℕ) (s : StateView) (input : Input) → IsSound s.formula → end_of n s ≡ Ok input →
+    IsWithinLimits input
 unfolding end_of
 end_limits n s input h k = by_end_limits (end_refusal n s) n s input h k
 
-answer_limits : (o : Option Refusal) (n : ℕ) (s : StateView) (input : Input) → IsSound s.formula → answer_by o n s ≡ Ok input → IsWithinLimits input
+answer_limits : (o : Option TextRefused) (n : ℕ) (s : StateView) (input : Input) →
+    IsSound s.formula → answer_by o n s ≡ Ok input → IsWithinLimits input
 answer_limits (Some r) n s input h k = absurd (cc)
 answer_limits None n s input h k = end_limits (last_line n) s input h k
 
-reads_limits-at : (q : Bool) (j : TextView) (r : Refusal) (input : Input) → IsSound j.state.formula → cond q (answer j) (Err r) ≡ Ok input → IsWithinLimits input
+reads_limits-at : (q : Bool) (j : TextView) (r : TextRefused) (input : Input) →
+    IsSound j.state.formula → cond q (answer j) (Err r) ≡ Ok input → IsWithinLimits input
 reads_limits-at true j r input h k = answer_limits j.stopped j.lines j.state input h k
 reads_limits-at false j r input h k = absurd (cc)
 
 reads_limits : (bs : List ℕ) (input : Input) → reads bs ≡ Ok input → IsWithinLimits input
 unfolding reads
 reads_limits bs input k =
-    reads_limits-at (leb (length bs) most_bytes) (text_after (lines bs)) _ input (text_sound (lines bs)) k
+    reads_limits-at (leb (length bs) most_bytes) (text_after (lines bs)) _ input (text_sound (lines bs)).0 k
 
 -- what is read is within the limits
-pub text_limits : (old new : Option (List ℕ)) (before after : ℕ) (result : Result Input ReadFailed) → ReadsText old new before after result → IfOk result IsWithinLimits
+pub text_limits : (old new : Option (List ℕ)) (before after : ℕ)
+    (result : Result Input ReadRefused) → ReadsText old new before after result →
+    IfOk result IsWithinLimits
 text_limits old new before after (Ok input) r = reads_limits r.bytes input r.says.says
 text_limits old new before after (Err failed) r = tt
+
+-- however long the text is, few names are kept
+pub names_few : (ls : List (List ℕ)) → length (text_after ls).state.named ≤ most_variables
+names_few ls = few_length (text_after ls).state.named (text_sound ls).1

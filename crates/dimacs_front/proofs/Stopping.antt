@@ -8,7 +8,7 @@ use Rattle.dimacs_tokens.specs.Cuts.{cut_tokens, complete, rest_of, tokens}
 use Rattle.dimacs_tokens.specs.Seen.{SeenView, seen, more_seen, is_empty}
 use Rattle.dimacs_tokens.specs.Reading.{Reading, reading_at, eats, line_read, lines_read, reading_of, read_byte, token_ends, text_ends}
 use Rattle.dimacs_tokens.proofs.ReadingSteps.{reading_append, reading_ends}
-use Rattle.dimacs_front.specs.declared.refusals.Refusal.{Refusal}
+use Rattle.dimacs_front.specs.declared.refused.TextRefused.{TextRefused}
 use Rattle.dimacs_front.specs.Limits.{most_bytes}
 use Rattle.dimacs_front.specs.LinePlaces.{refusal_at}
 use Rattle.dimacs_front.specs.Grammar.{closed}
@@ -28,7 +28,8 @@ unfolding eats
 stop_kept j [] = refl
 stop_kept j (t ∷ ts) = stop_kept (eat_token j (seen t)) ts
 
-lines_counted : (j : TextView) (ls : List (List ℕ)) → (lines_read eat_token close_line j ls).lines ≡ j.lines + length ls
+lines_counted : (j : TextView) (ls : List (List ℕ)) →
+    (lines_read eat_token close_line j ls).lines ≡ j.lines + length ls
 unfolding lines_read
 lines_counted j [] = omega arith
 lines_counted j (l ∷ ls) =
@@ -54,55 +55,69 @@ unfolding stops
 stops_behind bs = stop_at bs
 
 -- a refusal stays
-token_end_keeps : (x : Refusal) (j : TextView) (t : SeenView) (b : Bool) → j.stopped ≡ Some x → (cond b j (eat_token j t)).stopped ≡ Some x
+token_end_keeps : (x : TextRefused) (j : TextView) (t : SeenView) (b : Bool) → j.stopped ≡ Some x →
+    (cond b j (eat_token j t)).stopped ≡ Some x
 token_end_keeps x j t true h = h
 token_end_keeps x j t false h = h
 
-token_keeps : (x : Refusal) (j : TextView) (t : SeenView) → j.stopped ≡ Some x → (token_ends eat_token j t).stopped ≡ Some x
+token_keeps : (x : TextRefused) (j : TextView) (t : SeenView) → j.stopped ≡ Some x →
+    (token_ends eat_token j t).stopped ≡ Some x
 token_keeps x j t h = token_end_keeps x j t (is_empty t) h
 
-close_keeps : (x : Refusal) (j : TextView) → j.stopped ≡ Some x → (close_line j).stopped ≡ Some x
+close_keeps : (x : TextRefused) (j : TextView) → j.stopped ≡ Some x →
+    (close_line j).stopped ≡ Some x
 close_keeps x j h = ap (λ o. first_of o (refusal_at (closed (j.lines + 1) j.state).place)) h
 
-byte_keeps-at : (x : Refusal) (r : Reading TextView) (b : ℕ) (m k : Bool) → r.state.stopped ≡ Some x → (cond m (reading_at (close_line (token_ends eat_token r.state r.token)) (seen []) false) (cond k (reading_at (token_ends eat_token r.state r.token) (seen []) true) (reading_at r.state (more_seen r.token b) true))).state.stopped ≡ Some x
+byte_keeps-at : (x : TextRefused) (r : Reading TextView) (b : ℕ) (m k : Bool) →
+    r.state.stopped ≡ Some x →
+    (cond m (reading_at (close_line (token_ends eat_token r.state r.token)) (seen []) false) (cond k (reading_at (token_ends eat_token r.state r.token) (seen []) true) (reading_at r.state (more_seen r.token b) true))).state.stopped ≡
+    Some x
 byte_keeps-at x r b true k h = close_keeps x (token_ends eat_token r.state r.token) (token_keeps x r.state r.token h)
 byte_keeps-at x r b false true h = token_keeps x r.state r.token h
 byte_keeps-at x r b false false h = h
 
-byte_keeps : (x : Refusal) (r : Reading TextView) (b : ℕ) → r.state.stopped ≡ Some x → (read_byte eat_token close_line r b).state.stopped ≡ Some x
+byte_keeps : (x : TextRefused) (r : Reading TextView) (b : ℕ) → r.state.stopped ≡ Some x →
+    (read_byte eat_token close_line r b).state.stopped ≡ Some x
 unfolding read_byte
 byte_keeps x r b h = byte_keeps-at x r b (is_newline b) (is_white b) h
 
-bytes_keep : (x : Refusal) (r : Reading TextView) (ps : List ℕ) → r.state.stopped ≡ Some x → (fold (read_byte eat_token close_line) r ps).state.stopped ≡ Some x
+bytes_keep : (x : TextRefused) (r : Reading TextView) (ps : List ℕ) → r.state.stopped ≡ Some x →
+    (fold (read_byte eat_token close_line) r ps).state.stopped ≡ Some x
 bytes_keep x r [] h = h
 bytes_keep x r (p ∷ ps) h = bytes_keep x (read_byte eat_token close_line r p) ps (byte_keeps x r p h)
 
-end_keeps-at : (x : Refusal) (r : Reading TextView) (b : Bool) → r.state.stopped ≡ Some x → (cond b (close_line (token_ends eat_token r.state r.token)) r.state).stopped ≡ Some x
+end_keeps-at : (x : TextRefused) (r : Reading TextView) (b : Bool) → r.state.stopped ≡ Some x →
+    (cond b (close_line (token_ends eat_token r.state r.token)) r.state).stopped ≡ Some x
 end_keeps-at x r true h = close_keeps x (token_ends eat_token r.state r.token) (token_keeps x r.state r.token h)
 end_keeps-at x r false h = h
 
-end_keeps : (x : Refusal) (r : Reading TextView) → r.state.stopped ≡ Some x → (text_ends eat_token close_line r).stopped ≡ Some x
+end_keeps : (x : TextRefused) (r : Reading TextView) → r.state.stopped ≡ Some x →
+    (text_ends eat_token close_line r).stopped ≡ Some x
 unfolding text_ends
 end_keeps x r h = end_keeps-at x r r.in_line h
 
 -- a text that begins with a refused text is refused in the same way
-pub stops_stay : (x : Refusal) (bs ps : List ℕ) → stops bs ≡ Some x → (text_behind (bs ++ ps)).state.stopped ≡ Some x
+pub stops_stay : (x : TextRefused) (bs ps : List ℕ) → stops bs ≡ Some x →
+    (text_behind (bs ++ ps)).state.stopped ≡ Some x
 stops_stay x bs ps h =
     ap (λ (r : Reading TextView). r.state.stopped) (reading_append eat_token close_line text_at_start bs ps)
     ∙ bytes_keep x (text_behind bs) ps (stops_behind bs ∙ h)
 
 -- what a text says that is not too long
-pub reads-short : (bs : List ℕ) → length bs ≤ most_bytes → reads bs ≡ answer (text_ends eat_token close_line (text_behind bs))
+pub reads-short : (bs : List ℕ) → length bs ≤ most_bytes →
+    reads bs ≡ answer (text_ends eat_token close_line (text_behind bs))
 unfolding reads
 reads-short bs h =
     cond-true _ _ _ (le-leb (length bs) most_bytes h)
     ∙ ap answer (reading_ends eat_token close_line text_at_start bs)
 
-long_at : (bs : List ℕ) → long_answer (text_after (complete bs)) ≡ long_answer (text_behind bs).state
+long_at : (bs : List ℕ) →
+    long_answer (text_after (complete bs)) ≡ long_answer (text_behind bs).state
 long_at bs = λ i. long_by (sym (stop_at bs) i) (sym (lines_at bs) i)
 
 -- and what one says that is
-pub reads-long : (bs : List ℕ) → most_bytes < length bs → reads bs ≡ Err (long_answer (text_behind (take most_bytes bs)).state)
+pub reads-long : (bs : List ℕ) → most_bytes < length bs →
+    reads bs ≡ Err (long_answer (text_behind (take most_bytes bs)).state)
 unfolding reads
 reads-long bs h =
     cond-false _ _ _ (lt-leb (length bs) most_bytes h)
@@ -117,7 +132,8 @@ reads-longer bs ps h =
     ∙ sym (reads-long bs h)
 
 -- the front of two lists
-take_over : (n : ℕ) (bs ps : List ℕ) → length bs ≤ n → take n (bs ++ ps) ≡ bs ++ take (n - length bs) ps
+take_over : (n : ℕ) (bs ps : List ℕ) → length bs ≤ n →
+    take n (bs ++ ps) ≡ bs ++ take (n - length bs) ps
 take_over n [] ps h = let e : n ≡ n - 0 = omega arith in ap (λ m. take m ps) e
 take_over zero (b ∷ bs) ps h = absurd (omega arith)
 take_over (suc k) (b ∷ bs) ps h =
@@ -126,7 +142,9 @@ take_over (suc k) (b ∷ bs) ps h =
     ap (λ xs. b ∷ xs) (rest ∙ ap (λ m. bs ++ take m ps) same)
 
 -- behind a text that is not too long, so many bytes more are judged
-pub reads-beyond : (bs ps : List ℕ) → length bs ≤ most_bytes → most_bytes < length bs + length ps → reads (bs ++ ps) ≡ Err (long_answer (fold (read_byte eat_token close_line) (text_behind bs) (take (most_bytes - length bs) ps)).state)
+pub reads-beyond : (bs ps : List ℕ) → length bs ≤ most_bytes → most_bytes < length bs + length ps →
+    reads (bs ++ ps) ≡
+    Err (long_answer (fold (read_byte eat_token close_line) (text_behind bs) (take (most_bytes - length bs) ps)).state)
 reads-beyond bs ps h long =
     let longer : most_bytes < length (bs ++ ps) = omega (arith, length-append bs ps) in
     reads-long (bs ++ ps) longer
@@ -134,7 +152,8 @@ reads-beyond bs ps h long =
     ∙ ap (λ (r : Reading TextView). Err (long_answer r.state)) (reading_append eat_token close_line text_at_start bs (take (most_bytes - length bs) ps))
 
 -- a refusal of a complete line is the refusal of each text that goes on
-pub reads-stopped : (x : Refusal) (bs ps : List ℕ) → length bs ≤ most_bytes → stops bs ≡ Some x → reads (bs ++ ps) ≡ Err x
+pub reads-stopped : (x : TextRefused) (bs ps : List ℕ) → length bs ≤ most_bytes →
+    stops bs ≡ Some x → reads (bs ++ ps) ≡ Err x
 reads-stopped x bs ps h e =
     elim (cases_lt most_bytes (length (bs ++ ps))) [
       | inl long ↦
@@ -148,13 +167,15 @@ reads-stopped x bs ps h e =
     ]
 
 -- lines behind a refused line change nothing
-pub lines_keep : (x : Refusal) (j : TextView) (ls : List (List ℕ)) → j.stopped ≡ Some x → (lines_read eat_token close_line j ls).stopped ≡ Some x
+pub lines_keep : (x : TextRefused) (j : TextView) (ls : List (List ℕ)) → j.stopped ≡ Some x →
+    (lines_read eat_token close_line j ls).stopped ≡ Some x
 unfolding lines_read
 lines_keep x j [] h = h
 lines_keep x j (l ∷ ls) h =
     lines_keep x (line_read eat_token close_line j l) ls (close_keeps x (eats eat_token j (tokens l)) (stop_kept j (tokens l) ∙ h))
 
-pub lowest_counts : (x : Refusal) (ls ms : List (List ℕ)) → (text_after ls).stopped ≡ Some x → (text_after (ls ++ ms)).stopped ≡ Some x
+pub lowest_counts : (x : TextRefused) (ls ms : List (List ℕ)) → (text_after ls).stopped ≡ Some x →
+    (text_after (ls ++ ms)).stopped ≡ Some x
 unfolding lines_read
 lowest_counts x ls ms h =
     ap (λ (j : TextView). j.stopped) (fold-append (line_read eat_token close_line) text_at_start ls ms)

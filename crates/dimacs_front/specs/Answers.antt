@@ -4,10 +4,10 @@ use Rattle.dimacs_tokens.specs.Cuts.{complete}
 use Rattle.sat_terms.specs.Subjects.{IsSubject}
 use Rattle.fault_io.specs.Bytes.{Consumes, IsAtEnd}
 use Rattle.fault_io.specs.Faults.{Rose}
-use Rattle.dimacs_front.specs.declared.refusals.Refusal.{Refusal}
-use Rattle.dimacs_front.specs.declared.refusals.Refusal.TheVariants.{TextTooLong}
-use Rattle.dimacs_front.specs.declared.refusals.ReadFailed.{ReadFailed}
-use Rattle.dimacs_front.specs.declared.refusals.ReadFailed.TheVariants.{Text, ReadFault, OutOfMemory}
+use Rattle.dimacs_front.specs.declared.refused.TextRefused.{TextRefused}
+use Rattle.dimacs_front.specs.declared.refused.TextRefused.TheVariants.{TextTooLong}
+use Rattle.dimacs_front.specs.declared.refused.ReadRefused.{ReadRefused}
+use Rattle.dimacs_front.specs.declared.refused.ReadRefused.TheVariants.{Text, ReadFault, OutOfMemory}
 use Rattle.dimacs_front.specs.declared.input.Input.{Input}
 use Rattle.dimacs_front.specs.Limits.{most_bytes, most_shown}
 use Rattle.dimacs_front.specs.Whole.{reads, stops}
@@ -18,13 +18,13 @@ pub record IsInput (now : Option (List ℕ)) (bs : List ℕ) (input : Input) : T
   pub says : reads bs ≡ Ok input
 
 -- more bytes were taken than a text has, and the refusal is for that
-pub record IsTooMuch (bs : List ℕ) (r : Refusal) : Type 0 where
+pub record IsTooMuch (bs : List ℕ) (r : TextRefused) : Type 0 where
   pub beyond : most_bytes < length bs
   pub line : ℕ
   pub named : r ≡ TextTooLong line
 
 -- the bytes taken are refused; all were taken, or one of their complete lines is refused, or they are too many
-pub record IsRefused (now : Option (List ℕ)) (bs : List ℕ) (r : Refusal) : Type 0 where
+pub record IsRefused (now : Option (List ℕ)) (bs : List ℕ) (r : TextRefused) : Type 0 where
   pub found : IsAtEnd now ⊎ ((stops bs ≡ Some r) ⊎ IsTooMuch bs r)
   pub says : reads bs ≡ Err r
 
@@ -36,20 +36,20 @@ pub record IsFaultIn (before now : ℕ) (bs : List ℕ) (line : ℕ) : Type 0 wh
 
 -- what the answer says of the bytes taken, where the source's bytes and faults are these now;
 -- of want of memory nothing is said
-abbrev pub SaysOf : Option (List ℕ) → ℕ → ℕ → List ℕ → Result Input ReadFailed → Type 0
+abbrev pub SaysOf : Option (List ℕ) → ℕ → ℕ → List ℕ → Result Input ReadRefused → Type 0
 SaysOf left before now bs (Ok input) = IsInput left bs input
 SaysOf left before now bs (Err (Text r)) = IsRefused left bs r
 SaysOf left before now bs (Err (ReadFault line)) = IsFaultIn before now bs line
 SaysOf left before now bs (Err (OutOfMemory e)) = Unit {0}
 
 -- some bytes were taken, and the answer is right for them
-pub record ReadsText (old new : Option (List ℕ)) (before now : ℕ) (result : Result Input ReadFailed) : Type 0 where
+pub record ReadsText (old new : Option (List ℕ)) (before now : ℕ) (result : Result Input ReadRefused) : Type 0 where
   pub bytes : List ℕ
   pub consumed : Consumes old new bytes
   pub says : SaysOf new before now bytes result
 
 -- the answer is right for all the bytes that the source had, where it tells them
-abbrev pub TellsText : Option (List ℕ) → Result Input ReadFailed → Type 0
+abbrev pub TellsText : Option (List ℕ) → Result Input ReadRefused → Type 0
 TellsText None result = Unit {0}
 TellsText (Some bs) (Ok input) = reads bs ≡ Ok input
 TellsText (Some bs) (Err (Text r)) = reads bs ≡ Err r

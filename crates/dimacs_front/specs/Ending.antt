@@ -1,25 +1,25 @@
 -- What a text says at its end, where no line of it is refused. Here n is the number of the last line.
 use Rattle.std.specs.Prelude.{ℕ, Bool, not, cond, ◌==◌, ◌||◌, nat_le, List, [], ◌∷◌, length, Option, Some, None, Result, Ok, Err}
-use Rattle.std.specs.List.{list_any, filter, range_with_len}
+use Rattle.std.specs.List.{filter, range_with_len}
 use Rattle.dimacs_tokens.specs.Seen.{is_nil}
-use Rattle.dimacs_front.specs.declared.refusals.Refusal.{Refusal}
-use Rattle.dimacs_front.specs.declared.refusals.Refusal.TheVariants.{NoHeader, Unfinished, ClauseCount, ShowBad, TooManyShown}
+use Rattle.dimacs_front.specs.declared.refused.TextRefused.{TextRefused}
+use Rattle.dimacs_front.specs.declared.refused.TextRefused.TheVariants.{NoHeader, Unfinished, ClauseCount, ShowBad, TooManyShown}
 use Rattle.dimacs_front.specs.declared.shown.Named.{Named}
 use Rattle.dimacs_front.specs.declared.input.Input.{Input}
 use Rattle.dimacs_front.specs.Limits.{most_shown}
-use Rattle.dimacs_front.specs.Grammar.{WrittenView, StateView}
+use Rattle.dimacs_front.specs.Grammar.{WrittenView, StateView, is_named}
 
 -- the line of the first show line that names a variable above v
 abbrev pub first_above : ℕ → List Named → Option ℕ
 first_above v [] = None
 first_above v (m ∷ ms) = cond (nat_le m.variable v) (first_above v ms) (Some m.line)
 
-abbrev pub range_refusal : Option ℕ → Option Refusal
+abbrev pub range_refusal : Option ℕ → Option TextRefused
 range_refusal None = None
 range_refusal (Some line) = Some (ShowBad line)
 
 -- the first refusal of the end, but for too many shown variables
-unfoldable pub end_refusal : ℕ → StateView → Option Refusal
+unfoldable pub end_refusal : ℕ → StateView → Option TextRefused
 end_refusal n s =
     cond s.started
     (cond (is_nil s.formula.open_clause)
@@ -31,7 +31,7 @@ end_refusal n s =
 
 -- the variables 1 to v that a show line names; all of them where there is no show line
 abbrev pub or_named : Bool → List Named → ℕ → Bool
-or_named all named v = all || list_any (λ m. m.variable == v) named
+or_named all named v = all || is_named named v
 
 abbrev pub shown_of : Bool → List Named → ℕ → List ℕ
 shown_of given named v = filter (or_named (not given) named) (range_with_len 1 v)
@@ -41,15 +41,17 @@ abbrev pub few : List ℕ → Option (List ℕ)
 few vs = cond (nat_le (length vs) most_shown) (Some vs) None
 
 abbrev pub input_of : WrittenView → List ℕ → Input
-input_of w vs = record { subject = record { formula = record { variables = w.variables; clauses = w.clauses }; shown = vs } }
+input_of w vs = record {
+  subject = record { formula = record { variables = w.variables; clauses = w.clauses }; shown = vs };
+}
 
-abbrev pub with_shown : ℕ → WrittenView → Option (List ℕ) → Result Input Refusal
+abbrev pub with_shown : ℕ → WrittenView → Option (List ℕ) → Result Input TextRefused
 with_shown n w (Some vs) = Ok (input_of w vs)
 with_shown n w None = Err (TooManyShown n)
 
-abbrev pub by_end : Option Refusal → ℕ → StateView → Result Input Refusal
+abbrev pub by_end : Option TextRefused → ℕ → StateView → Result Input TextRefused
 by_end (Some r) n s = Err r
 by_end None n s = with_shown n s.formula (few (shown_of s.given s.named s.formula.variables))
 
-unfoldable pub end_of : ℕ → StateView → Result Input Refusal
+unfoldable pub end_of : ℕ → StateView → Result Input TextRefused
 end_of n s = by_end (end_refusal n s) n s

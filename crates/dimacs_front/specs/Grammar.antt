@@ -1,13 +1,14 @@
 -- What a token says in a text, and what the end of a line does. Here n is the line's number, counted from 1.
 use Rattle.std.specs.Prelude.{ℕ, Bool, true, false, cond, ◌==◌, nat_le, nat_lt, List, [], ◌∷◌, ◌++◌, length, ◌+◌, ℤ, nat_abs, Option, Some, None}
+use Rattle.std.specs.List.{list_any}
 use Rattle.dimacs_tokens.specs.Numbers.{value_of}
 use Rattle.dimacs_tokens.specs.Seen.{SeenView, begins_with}
-use Rattle.dimacs_front.specs.declared.refusals.Refusal.{Refusal}
-use Rattle.dimacs_front.specs.declared.refusals.Refusal.TheVariants.{BadHeader, HeaderTwice, BadNumber, VariableTooLarge, ShowBad, ShowUnended, TooManyVariables, TooManyClauses, TooManyLiterals}
+use Rattle.dimacs_front.specs.declared.refused.TextRefused.{TextRefused}
+use Rattle.dimacs_front.specs.declared.refused.TextRefused.TheVariants.{BadHeader, HeaderTwice, BadNumber, VariableTooLarge, ShowBad, ShowUnended, TooManyVariables, TooManyClauses, TooManyLiterals}
 use Rattle.dimacs_front.specs.declared.line_place.LinePlace.{LinePlace}
 use Rattle.dimacs_front.specs.declared.line_place.LinePlace.TheVariants.{Beginning, HeaderWord, HeaderVariables, HeaderClauses, HeaderEnd, Clauses, Comment, CommentParted, CommentNamed, Show, ShowEnd, Passed, Over, Refused}
 use Rattle.dimacs_front.specs.declared.shown.Named.{Named}
-use Rattle.dimacs_front.specs.Early.{natural}
+use Rattle.dimacs_front.specs.LinePlaces.{natural}
 use Rattle.dimacs_front.specs.Limits.{most_variables, most_clauses, most_literals}
 use Rattle.dimacs_front.specs.LinePlaces.{header_begun, comment_begun, place_after}
 
@@ -43,8 +44,16 @@ literal_added w l = record {
   literals = w.literals + 1;
 }
 
+-- whether a show line names the variable
+abbrev pub is_named : List Named → ℕ → Bool
+is_named ms v = list_any (λ m. m.variable == v) ms
+
+-- a variable is kept once, with the first show line that names it
+abbrev pub name_once : List Named → Named → List Named
+name_once ms m = cond (is_named ms m.variable) ms (ms ++ m ∷ [])
+
 -- the place in the line, whether there was a header, the formula below it, whether a show line was ended,
--- and the variables of all show lines with their lines
+-- and the variables of all show lines, each with the first line that names it
 pub record StateView : Type 0 where
   pub place : LinePlace
   pub started : Bool
@@ -53,18 +62,26 @@ pub record StateView : Type 0 where
   pub named : List Named
 
 abbrev pub nothing_said_yet : StateView
-nothing_said_yet = record { place = Beginning; started = false; formula = nothing_written 0 0; given = false; named = [] }
+nothing_said_yet = record {
+  place = Beginning;
+  started = false;
+  formula = nothing_written 0 0;
+  given = false;
+  named = [];
+}
 
 -- the state at another place
 abbrev pub at_place : StateView → LinePlace → StateView
-at_place s p = record { place = p; started = s.started; formula = s.formula; given = s.given; named = s.named }
+at_place s p =
+    record { place = p; started = s.started; formula = s.formula; given = s.given; named = s.named }
 
-abbrev pub refuse : StateView → Refusal → StateView
+abbrev pub refuse : StateView → TextRefused → StateView
 refuse s r = at_place s (Refused r)
 
 -- the state among the clauses, with this formula
 abbrev pub in_clauses : StateView → WrittenView → StateView
-in_clauses s w = record { place = Clauses; started = s.started; formula = w; given = s.given; named = s.named }
+in_clauses s w =
+    record { place = Clauses; started = s.started; formula = w; given = s.given; named = s.named }
 
 -- a token of a clause: 0 ends the clause, and any other number is its next literal
 abbrev pub zero_eaten : ℕ → StateView → StateView
@@ -87,7 +104,13 @@ number_eaten n s (Some l) = cond (nat_abs l == 0) (zero_eaten n s) (literal_eate
 
 -- a token of a show line: variables, and a 0 that ends them
 abbrev pub show_ended : StateView → StateView
-show_ended s = record { place = ShowEnd; started = s.started; formula = s.formula; given = true; named = s.named }
+show_ended s = record {
+  place = ShowEnd;
+  started = s.started;
+  formula = s.formula;
+  given = true;
+  named = s.named;
+}
 
 abbrev pub variable_named : ℕ → StateView → ℕ → StateView
 variable_named n s v = record {
@@ -95,7 +118,7 @@ variable_named n s v = record {
   started = s.started;
   formula = s.formula;
   given = s.given;
-  named = s.named ++ record { variable = v; line = n } ∷ [];
+  named = name_once s.named (record { variable = v; line = n });
 }
 
 abbrev pub shown_eaten : ℕ → StateView → Option ℕ → StateView
@@ -129,12 +152,22 @@ eaten_at p n s t = at_place s (place_after p n t)
 unfoldable pub eaten : ℕ → StateView → SeenView → StateView
 eaten n s t = eaten_at s.place n s t
 
+-- the state below a header with these numbers
+abbrev pub below_header : StateView → ℕ → ℕ → StateView
+below_header s v c = record {
+  place = Beginning;
+  started = true;
+  formula = nothing_written v c;
+  given = s.given;
+  named = s.named;
+}
+
 -- the header's line ends
 abbrev pub header_ended : ℕ → StateView → ℕ → ℕ → StateView
 header_ended n s v c =
     cond (nat_le v most_variables)
     (cond (nat_le c most_clauses)
-    (record { place = Beginning; started = true; formula = nothing_written v c; given = s.given; named = s.named })
+    (below_header s v c)
     (refuse s (TooManyClauses n)))
     (refuse s (TooManyVariables n))
 

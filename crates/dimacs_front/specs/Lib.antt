@@ -1,16 +1,9 @@
 pub mod Answers
-pub mod Early
 pub mod Ending
 pub mod Grammar
-pub mod Judging
 pub mod Limits
 pub mod LinePlaces
 pub mod Numbering
 pub mod Pieces
-pub mod Places
-pub mod Reads
-pub mod Refusals
-pub mod Sizes
-pub mod Steps
 pub mod TextLaws
 pub mod Whole

@@ -1,13 +1,18 @@
 -- The place in a line between two tokens. Here n is the line's number, and t what is seen of the next token.
-use Rattle.std.specs.Prelude.{ℕ, cond, ◌&&◌, ◌||◌, ◌==◌, codes, Option, Some, None}
+use Rattle.std.specs.Prelude.{ℕ, ℤ, pos, negsuc, cond, ◌&&◌, ◌||◌, ◌==◌, codes, Option, Some, None}
 use Rattle.std.specs.Str.{bytes_eq}
 use Rattle.dimacs_tokens.specs.Numbers.{value_of}
 use Rattle.dimacs_tokens.specs.Seen.{SeenView, begins_with}
-use Rattle.dimacs_front.specs.declared.refusals.Refusal.{Refusal}
-use Rattle.dimacs_front.specs.declared.refusals.Refusal.TheVariants.{BadStart, BadHeader, ShowBad, NotBuilt}
+use Rattle.dimacs_front.specs.declared.refused.TextRefused.{TextRefused}
+use Rattle.dimacs_front.specs.declared.refused.TextRefused.TheVariants.{BadStart, BadHeader, ShowBad, NotBuilt}
 use Rattle.dimacs_front.specs.declared.line_place.LinePlace.{LinePlace}
 use Rattle.dimacs_front.specs.declared.line_place.LinePlace.TheVariants.{Beginning, HeaderWord, HeaderVariables, HeaderClauses, HeaderEnd, Clauses, Comment, CommentParted, CommentNamed, Show, ShowEnd, Passed, Over, Refused}
-use Rattle.dimacs_front.specs.Early.{natural}
+
+-- a number without a minus
+abbrev pub natural : Option ℤ → Option ℕ
+natural None = None
+natural (Some (pos n)) = Some n
+natural (Some (negsuc n)) = None
 
 -- a line above the header that begins no comment: its first byte has to be `p` (112), and its first token `p`
 abbrev pub header_begun : ℕ → SeenView → LinePlace
@@ -50,6 +55,6 @@ place_after Over n t = Over
 place_after (Refused r) n t = Refused r
 
 -- the refusal of the line, if there is one
-abbrev pub refusal_at : LinePlace → Option Refusal
+abbrev pub refusal_at : LinePlace → Option TextRefused
 refusal_at (Refused r) = Some r
 refusal_at p = None

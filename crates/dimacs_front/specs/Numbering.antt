@@ -1,10 +1,10 @@
--- The numbers and the lines of refusals.
-use Rattle.std.specs.Prelude.{ℕ}
-use Rattle.dimacs_front.specs.declared.refusals.Refusal.{Refusal}
-use Rattle.dimacs_front.specs.declared.refusals.Refusal.TheVariants.{BadStart, BadHeader, HeaderTwice, NoHeader, BadNumber, VariableTooLarge, Unfinished, ClauseCount, ShowBad, ShowUnended, TooManyVariables, TooManyClauses, TooManyLiterals, TooManyShown, TextTooLong, NotBuilt}
+-- The numbers, the names and the lines of refusals.
+use Rattle.std.specs.Prelude.{ℕ, List, codes}
+use Rattle.dimacs_front.specs.declared.refused.TextRefused.{TextRefused}
+use Rattle.dimacs_front.specs.declared.refused.TextRefused.TheVariants.{BadStart, BadHeader, HeaderTwice, NoHeader, BadNumber, VariableTooLarge, Unfinished, ClauseCount, ShowBad, ShowUnended, TooManyVariables, TooManyClauses, TooManyLiterals, TooManyShown, TextTooLong, NotBuilt}
 
 -- the number that notes to the user give
-abbrev pub number_of : Refusal → ℕ
+abbrev pub number_of : TextRefused → ℕ
 number_of (BadStart line) = 1
 number_of (BadHeader line) = 2
 number_of (HeaderTwice line) = 3
@@ -22,8 +22,27 @@ number_of (TooManyShown line) = 14
 number_of (TextTooLong line) = 15
 number_of (NotBuilt line) = 20
 
+-- the name there
+abbrev pub name_of : TextRefused → List ℕ
+name_of (BadStart line) = codes "BadStart"
+name_of (BadHeader line) = codes "BadHeader"
+name_of (HeaderTwice line) = codes "HeaderTwice"
+name_of (NoHeader line) = codes "NoHeader"
+name_of (BadNumber line) = codes "BadNumber"
+name_of (VariableTooLarge line) = codes "VariableTooLarge"
+name_of (Unfinished line) = codes "Unfinished"
+name_of (ClauseCount line said found) = codes "ClauseCount"
+name_of (ShowBad line) = codes "ShowBad"
+name_of (ShowUnended line) = codes "ShowUnended"
+name_of (TooManyVariables line) = codes "TooManyVariables"
+name_of (TooManyClauses line) = codes "TooManyClauses"
+name_of (TooManyLiterals line) = codes "TooManyLiterals"
+name_of (TooManyShown line) = codes "TooManyShown"
+name_of (TextTooLong line) = codes "TextTooLong"
+name_of (NotBuilt line) = codes "NotBuilt"
+
 -- the line that is refused, counted from 1
-abbrev pub line_of : Refusal → ℕ
+abbrev pub line_of : TextRefused → ℕ
 line_of (BadStart line) = line
 line_of (BadHeader line) = line
 line_of (HeaderTwice line) = line

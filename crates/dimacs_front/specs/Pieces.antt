@@ -1,15 +1,15 @@
 -- What one piece and the end of the text do to the reader.
 use Rattle.std.specs.Prelude.{◌≡◌, ℕ, ◌+◌, ◌-◌, ◌<◌, ◌≤◌, ◌⊎◌, List, length, take, fold, Some, None, Result, Ok, Err}
 use Rattle.dimacs_tokens.specs.Reading.{Reading, read_byte}
-use Rattle.dimacs_front.specs.declared.refusals.Refusal.{Refusal}
-use Rattle.dimacs_front.specs.declared.refusals.ReadFailed.{ReadFailed}
-use Rattle.dimacs_front.specs.declared.refusals.ReadFailed.TheVariants.{Text, ReadFault, OutOfMemory}
+use Rattle.dimacs_front.specs.declared.refused.TextRefused.{TextRefused}
+use Rattle.dimacs_front.specs.declared.refused.ReadRefused.{ReadRefused}
+use Rattle.dimacs_front.specs.declared.refused.ReadRefused.TheVariants.{Text, ReadFault, OutOfMemory}
 use Rattle.dimacs_front.specs.declared.input.Input.{Input}
 use Rattle.dimacs_front.specs.Limits.{most_bytes}
 use Rattle.dimacs_front.specs.Whole.{TextView, eat_token, close_line, long_answer}
 
 -- the answer, unless there was no memory
-abbrev pub Gives : Result Input Refusal → Result Input ReadFailed → Type 0
+abbrev pub Gives : Result Input TextRefused → Result Input ReadRefused → Type 0
 Gives o (Ok input) = o ≡ Ok input
 Gives o (Err (Text r)) = o ≡ Err r
 Gives o (Err (ReadFault line)) = ⊥
@@ -28,16 +28,16 @@ pub record IsFedOn (old : Reading TextView) (count : ℕ) (piece : List ℕ) (ne
   pub going : new.state.stopped ≡ None
 
 -- the piece ends within the limit, and a complete line is refused
-pub record IsStopped (old : Reading TextView) (count : ℕ) (piece : List ℕ) (r : Refusal) : Type 0 where
+pub record IsStopped (old : Reading TextView) (count : ℕ) (piece : List ℕ) (r : TextRefused) : Type 0 where
   pub within : count + length piece ≤ most_bytes
   pub stopped : (behind old piece).state.stopped ≡ Some r
 
 -- the piece goes beyond the limit
-pub record IsBeyond (old : Reading TextView) (count : ℕ) (piece : List ℕ) (r : Refusal) : Type 0 where
+pub record IsBeyond (old : Reading TextView) (count : ℕ) (piece : List ℕ) (r : TextRefused) : Type 0 where
   pub beyond : most_bytes < count + length piece
   pub judged : long_answer (behind old (take (most_bytes - count) piece)).state ≡ r
 
-abbrev pub FeedsOn : Reading TextView → ℕ → List ℕ → Reading TextView → Result ℕ ReadFailed → Type 0
+abbrev pub FeedsOn : Reading TextView → ℕ → List ℕ → Reading TextView → Result ℕ ReadRefused → Type 0
 FeedsOn old count piece new (Ok n) = IsFedOn old count piece new n
 FeedsOn old count piece new (Err (Text r)) = IsStopped old count piece r ⊎ IsBeyond old count piece r
 FeedsOn old count piece new (Err (ReadFault line)) = ⊥

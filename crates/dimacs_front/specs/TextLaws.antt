@@ -1,21 +1,26 @@
 -- What holds of whole lines, said without the places in them.
-use Rattle.std.specs.Prelude.{◌≡◌, ℕ, ◌<◌, ◌≤◌, Bool, true, false, cond, ◌&&◌, List, [], ◌∷◌, ◌++◌, map, fold, codes, Option, Some, None}
-use Rattle.std.specs.List.{All}
+use Rattle.std.specs.Prelude.{◌≡◌, ℕ, ◌<◌, ◌≤◌, Bool, true, false, cond, ◌==◌, ◌&&◌, ◌||◌, List, [], ◌∷◌, ◌++◌, length, map, fold, codes, Option, Some, None}
+use Rattle.std.specs.List.{All, list_any}
 use Rattle.std.specs.Str.{bytes_eq}
 use Rattle.dimacs_tokens.specs.Numbers.{token_value}
 use Rattle.dimacs_tokens.specs.Seen.{seen, begins_with}
-use Rattle.dimacs_front.specs.declared.refusals.Refusal.{Refusal}
-use Rattle.dimacs_front.specs.declared.refusals.Refusal.TheVariants.{BadHeader}
+use Rattle.dimacs_front.specs.declared.refused.TextRefused.{TextRefused}
+use Rattle.dimacs_front.specs.declared.refused.TextRefused.TheVariants.{BadHeader}
 use Rattle.dimacs_front.specs.declared.line_place.LinePlace.TheVariants.{Beginning}
 use Rattle.dimacs_front.specs.declared.shown.Named.{Named}
-use Rattle.dimacs_front.specs.Early.{natural, Header}
+use Rattle.dimacs_front.specs.LinePlaces.{natural}
 use Rattle.dimacs_front.specs.Limits.{most_variables}
-use Rattle.dimacs_front.specs.Grammar.{WrittenView, StateView, refuse, eaten, header_ended, closed}
+use Rattle.dimacs_front.specs.Grammar.{WrittenView, StateView, is_named, name_once, refuse, eaten, header_ended, closed}
 use Rattle.dimacs_front.specs.Whole.{text_after}
 
 -- what the tokens of line n say, and its end
 abbrev pub line_said : ℕ → StateView → List (List ℕ) → StateView
 line_said n s ts = closed n (fold (λ u t. eaten n u (seen t)) s ts)
+
+-- what a header says: how many variables there are, and how many clauses
+pub record Header : Type 0 where
+  pub variables : ℕ
+  pub clauses : ℕ
 
 -- the header with these numbers
 abbrev pub numbers_of : Option ℕ → Option ℕ → Option Header
@@ -43,7 +48,10 @@ beginning started w given named =
 -- a line above the header whose first byte is `p` (112) has just the four tokens of a header, or is refused
 abbrev pub AHeaderHasFourTokens : Type 0
 AHeaderHasFourTokens =
-    (n : ℕ) (w : WrittenView) (given : Bool) (named : List Named) (t : List ℕ) (ts : List (List ℕ)) → begins_with (seen t) 112 ≡ true → line_said n (beginning false w given named) (t ∷ ts) ≡ header_said n (beginning false w given named) (header_numbers (t ∷ ts))
+    (n : ℕ) (w : WrittenView) (given : Bool) (named : List Named) (t : List ℕ) (ts : List (List ℕ)) →
+    begins_with (seen t) 112 ≡ true →
+    line_said n (beginning false w given named) (t ∷ ts) ≡
+    header_said n (beginning false w given named) (header_numbers (t ∷ ts))
 
 -- a variable of a show line
 abbrev pub IsVariable : ℕ → Type 0
@@ -52,12 +60,34 @@ IsVariable v = (0 < v) × (v ≤ most_variables)
 abbrev pub named_in : ℕ → ℕ → Named
 named_in n v = record { variable = v; line = n }
 
--- a show line of tokens with these values, which a 0 ends, names just these variables, above the header and below
+-- the names behind a show line of these variables
+abbrev pub names_behind : ℕ → List Named → List ℕ → List Named
+names_behind n named vs = fold name_once named (map (named_in n) vs)
+
+-- a show line of tokens with these values, which a 0 ends, names just these variables, above the header
+-- and below
 abbrev pub AShowLineNamesItsVariables : Type 0
 AShowLineNamesItsVariables =
-    (n : ℕ) (started : Bool) (w : WrittenView) (given : Bool) (named : List Named) (ts : List (List ℕ)) (z : List ℕ) (vs : List ℕ) → map (λ t. natural (token_value t)) ts ≡ map (λ v. Some v) vs → All IsVariable vs → natural (token_value z) ≡ Some 0 → line_said n (beginning started w given named) (codes "c" ∷ codes "p" ∷ codes "show" ∷ ts ++ z ∷ []) ≡ beginning started w true (named ++ map (named_in n) vs)
+    (n : ℕ) (started : Bool) (w : WrittenView) (given : Bool) (named : List Named) →
+    (ts : List (List ℕ)) (z : List ℕ) (vs : List ℕ) →
+    map (λ t. natural (token_value t)) ts ≡ map (λ v. Some v) vs →
+    All IsVariable vs →
+    natural (token_value z) ≡ Some 0 →
+    line_said n (beginning started w given named) (codes "c" ∷ codes "p" ∷ codes "show" ∷ ts ++ z ∷ []) ≡
+    beginning started w true (names_behind n named vs)
+
+-- behind it a variable is named just if it was named before, or is one of these
+abbrev pub AVariableIsNamedByItsLine : Type 0
+AVariableIsNamedByItsLine =
+    (n : ℕ) (named : List Named) (vs : List ℕ) (v : ℕ) →
+    is_named (names_behind n named vs) v ≡ (is_named named v || list_any (λ w. w == v) vs)
+
+-- however long the text is, no more variables of show lines are kept than there may be
+abbrev pub FewVariablesAreKept : Type 0
+FewVariablesAreKept = (ls : List (List ℕ)) → length (text_after ls).state.named ≤ most_variables
 
 -- the lowest refused line counts: lines behind it change nothing
 abbrev pub TheLowestRefusedLineCounts : Type 0
 TheLowestRefusedLineCounts =
-    (r : Refusal) (ls ms : List (List ℕ)) → (text_after ls).stopped ≡ Some r → (text_after (ls ++ ms)).stopped ≡ Some r
+    (r : TextRefused) (ls ms : List (List ℕ)) → (text_after ls).stopped ≡ Some r →
+    (text_after (ls ++ ms)).stopped ≡ Some r

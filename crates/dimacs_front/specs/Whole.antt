@@ -3,8 +3,8 @@ use Rattle.std.specs.Prelude.{ℕ, ◌+◌, cond, ◌==◌, nat_le, List, length
 use Rattle.dimacs_tokens.specs.Cuts.{lines, complete}
 use Rattle.dimacs_tokens.specs.Seen.{SeenView}
 use Rattle.dimacs_tokens.specs.Reading.{lines_read}
-use Rattle.dimacs_front.specs.declared.refusals.Refusal.{Refusal}
-use Rattle.dimacs_front.specs.declared.refusals.Refusal.TheVariants.{TextTooLong}
+use Rattle.dimacs_front.specs.declared.refused.TextRefused.{TextRefused}
+use Rattle.dimacs_front.specs.declared.refused.TextRefused.TheVariants.{TextTooLong}
 use Rattle.dimacs_front.specs.declared.input.Input.{Input}
 use Rattle.dimacs_front.specs.Limits.{most_bytes}
 use Rattle.dimacs_front.specs.LinePlaces.{refusal_at}
@@ -15,16 +15,16 @@ use Rattle.dimacs_front.specs.Ending.{end_of}
 pub record TextView : Type 0 where
   pub lines : ℕ
   pub state : StateView
-  pub stopped : Option Refusal
+  pub stopped : Option TextRefused
 
-abbrev pub text_at : ℕ → StateView → Option Refusal → TextView
+abbrev pub text_at : ℕ → StateView → Option TextRefused → TextView
 text_at n s o = record { lines = n; state = s; stopped = o }
 
 abbrev pub text_at_start : TextView
 text_at_start = text_at 0 nothing_said_yet None
 
 -- the first of the two that is there
-abbrev pub first_of : Option Refusal → Option Refusal → Option Refusal
+abbrev pub first_of : Option TextRefused → Option TextRefused → Option TextRefused
 first_of (Some r) o = Some r
 first_of None o = o
 
@@ -32,7 +32,7 @@ first_of None o = o
 abbrev pub eat_token : TextView → SeenView → TextView
 eat_token j t = text_at j.lines (eaten (j.lines + 1) j.state t) j.stopped
 
-abbrev pub below_line : ℕ → StateView → Option Refusal → TextView
+abbrev pub below_line : ℕ → StateView → Option TextRefused → TextView
 below_line n s o = text_at n s (first_of o (refusal_at s.place))
 
 abbrev pub close_line : TextView → TextView
@@ -47,31 +47,31 @@ abbrev pub last_line : ℕ → ℕ
 last_line n = cond (n == 0) 1 n
 
 -- the lowest refused line counts, and the end only where no line is refused
-abbrev pub answer_by : Option Refusal → ℕ → StateView → Result Input Refusal
+abbrev pub answer_by : Option TextRefused → ℕ → StateView → Result Input TextRefused
 answer_by (Some r) n s = Err r
 answer_by None n s = end_of (last_line n) s
 
-abbrev pub answer : TextView → Result Input Refusal
+abbrev pub answer : TextView → Result Input TextRefused
 answer j = answer_by j.stopped j.lines j.state
 
 -- a text that is too long: its complete lines within the limit are judged first
-abbrev pub long_by : Option Refusal → ℕ → Refusal
+abbrev pub long_by : Option TextRefused → ℕ → TextRefused
 long_by (Some r) n = r
 long_by None n = TextTooLong (n + 1)
 
-abbrev pub long_answer : TextView → Refusal
+abbrev pub long_answer : TextView → TextRefused
 long_answer j = long_by j.stopped j.lines
 
 -- what a text says, within m bytes
-abbrev pub reads_within : ℕ → List ℕ → Result Input Refusal
+abbrev pub reads_within : ℕ → List ℕ → Result Input TextRefused
 reads_within m bs =
     cond (nat_le (length bs) m)
     (answer (text_after (lines bs)))
     (Err (long_answer (text_after (complete (take m bs)))))
 
-unfoldable pub reads : List ℕ → Result Input Refusal
+unfoldable pub reads : List ℕ → Result Input TextRefused
 reads bs = reads_within most_bytes bs
 
 -- the refusal of the lowest refused line among the lines that byte 10 ends
-unfoldable pub stops : List ℕ → Option Refusal
+unfoldable pub stops : List ℕ → Option TextRefused
 stops bs = (text_after (complete bs)).stopped

@@ -1,11 +1,10 @@
 // Where in a line a reader stands between two tokens.
 ghost use Rattle.std.specs.Prelude.{◌≡◌};
 ghost use Rattle.dimacs_tokens.specs.Numbers.{value_of};
-ghost use Rattle.dimacs_front.specs.Early.{natural};
-ghost use Rattle.dimacs_front.specs.LinePlaces.{place_after, header_begun, comment_begun, behind_variables, behind_clauses, refusal_at};
+ghost use Rattle.dimacs_front.specs.LinePlaces.{natural, place_after, header_begun, comment_begun, behind_variables, behind_clauses, refusal_at};
 ghost use Rattle.dimacs_front.specs.Grammar.{place_closed};
 
-use crate::Refusal;
+use crate::TextRefused;
 use dimacs_tokens::{Numeral, Seen};
 
 /// The place in a line, with what its tokens said so far.
@@ -38,7 +37,7 @@ pub enum LinePlace {
     /// In or below the line that ends the formula.
     Over,
     /// Behind a refusal.
-    Refused(Refusal),
+    Refused(TextRefused),
 }
 
 impl LinePlace {
@@ -47,11 +46,11 @@ impl LinePlace {
         ensures { result ≡ header_begun line token.now }
     {
         if !token.begins_with(b'p') {
-            LinePlace::Refused(Refusal::BadStart { line })
+            LinePlace::Refused(TextRefused::BadStart { line })
         } else if token.is_word(b"p") {
             LinePlace::HeaderWord
         } else {
-            LinePlace::Refused(Refusal::BadHeader { line })
+            LinePlace::Refused(TextRefused::BadHeader { line })
         }
     }
 
@@ -72,24 +71,24 @@ impl LinePlace {
     {
         match self {
             LinePlace::HeaderWord if token.is_word(b"cnf") => LinePlace::HeaderVariables,
-            LinePlace::HeaderWord => LinePlace::Refused(Refusal::BadHeader { line }),
+            LinePlace::HeaderWord => LinePlace::Refused(TextRefused::BadHeader { line }),
             LinePlace::HeaderVariables => behind_variables(line, natural(token.number())),
             LinePlace::HeaderClauses { variables } => behind_clauses(
                 line,
                 variables,
                 natural(token.number()),
             ),
-            LinePlace::HeaderEnd { .. } => LinePlace::Refused(Refusal::BadHeader { line }),
+            LinePlace::HeaderEnd { .. } => LinePlace::Refused(TextRefused::BadHeader { line }),
             LinePlace::Comment if token.is_word(b"p") => LinePlace::CommentParted,
             LinePlace::Comment if line == 1 && token.is_word(b"allsat") => LinePlace::CommentNamed,
             LinePlace::Comment => LinePlace::Passed,
             LinePlace::CommentParted if token.is_word(b"show") => LinePlace::Show,
             LinePlace::CommentParted => LinePlace::Passed,
             LinePlace::CommentNamed if token.is_word(b"saved") || token.is_word(b"met") => {
-                LinePlace::Refused(Refusal::NotBuilt { line })
+                LinePlace::Refused(TextRefused::NotBuilt { line })
             }
             LinePlace::CommentNamed => LinePlace::Passed,
-            LinePlace::ShowEnd => LinePlace::Refused(Refusal::ShowBad { line }),
+            LinePlace::ShowEnd => LinePlace::Refused(TextRefused::ShowBad { line }),
             place => place,
         }
     }
@@ -100,8 +99,8 @@ impl LinePlace {
     {
         match self {
             LinePlace::HeaderWord | LinePlace::HeaderVariables | LinePlace::HeaderClauses { .. } =>
-                { LinePlace::Refused(Refusal::BadHeader { line }) }
-            LinePlace::Show => LinePlace::Refused(Refusal::ShowUnended { line }),
+                { LinePlace::Refused(TextRefused::BadHeader { line }) }
+            LinePlace::Show => LinePlace::Refused(TextRefused::ShowUnended { line }),
             LinePlace::Over => LinePlace::Over,
             LinePlace::Refused(refusal) => LinePlace::Refused(refusal),
             _ => LinePlace::Beginning,
@@ -109,7 +108,7 @@ impl LinePlace {
     }
 
     /// The refusal of the line, if there is one.
-    pub fn refusal(&self) -> Option<Refusal>
+    pub fn refusal(&self) -> Option<TextRefused>
         ensures { result ≡ refusal_at self.now }
     {
         match self {
@@ -137,7 +136,7 @@ fn behind_variables(line: u64, variables: Option<u32>) -> LinePlace
 {
     match variables {
         Some(variables) => LinePlace::HeaderClauses { variables },
-        None => LinePlace::Refused(Refusal::BadHeader { line }),
+        None => LinePlace::Refused(TextRefused::BadHeader { line }),
     }
 }
 
@@ -146,6 +145,6 @@ fn behind_clauses(line: u64, variables: u32, clauses: Option<u32>) -> LinePlace
 {
     match clauses {
         Some(clauses) => LinePlace::HeaderEnd { variables, clauses },
-        None => LinePlace::Refused(Refusal::BadHeader { line }),
+        None => LinePlace::Refused(TextRefused::BadHeader { line }),
     }
 }

@@ -1,113 +1,98 @@
-// The loop over the source, and the subject that is read.
-ghost use Rattle.std.specs.Prelude.{◌≡◌, ◌<◌, ◌≤◌, length, vec_len, IfOk};
-ghost use Rattle.std.specs.List.{range_with_len};
-ghost use Rattle.dimacs_front.specs.Reads.{Reads, Tells};
-ghost use Rattle.dimacs_front.specs.Sizes.{IsSmall};
-ghost use Rattle.dimacs_front.specs.Steps.{GoesOn, Judges};
+// The loop over the source.
+ghost use Rattle.std.specs.Prelude.{◌≡◌, ◌-◌, ◌<◌, ◌≤◌, length, vec_len, IfOk};
+ghost use Rattle.dimacs_front.specs.Answers.{ReadsText, TellsText, IsWithinLimits};
+ghost use Rattle.dimacs_front.specs.Pieces.{FeedsOn};
 
-use crate::reader::Reader;
-use crate::{ReadRefused, TextRefused};
+use crate::text_reader::TextReader;
+use crate::{Input, MOST_BYTES, ReadRefused, TextRefused};
 use fault_io::Source;
-use sat_terms::{Formula, Items, Subject};
 use std::alloc::{AllocError, Global};
 
-/// The most bytes of a text.
-pub const BYTE_LIMIT: usize = 1_048_576;
+const PIECE_SIZE: usize = 65_536;
 
-const BUFFER_SIZE: usize = 65_536;
-
-/// Reads a text from the source, up to its end or up to the piece in which it grows too long. All
-/// variables of its formula are shown. Takes memory for the formula and one buffer, whatever the
-/// length of the lines.
-pub fn read_subject<S: Source>(alloc: Global, source: &mut S) -> Result<Subject, ReadRefused>
-    ensures reads { Reads (λ s. s.formula)
+/// Reads a text from the source, up to its end, or up to the piece in which a line is refused or the text
+/// grows too long. Takes memory for the formula, for each variable of the show lines once, and for one
+/// buffer, whatever the length of the lines and of the text.
+pub fn read_subject<S: Source>(alloc: Global, source: &mut S) -> Result<Input, ReadRefused>
+    ensures reads { ReadsText
         (S.left source.old) (S.left source.new)
         (S.faults source.old) (S.faults source.new) result }
-    ensures shown { IfOk result (λ s. s.shown ≡ range_with_len 1 s.formula.variables) }
 
     // What it is for all the bytes that the source had.
-    ensures told { Tells (S.left source.old) result }
+    ensures told { TellsText (S.left source.old) result }
 
-    ensures sizes { IfOk result IsSmall }
+    ensures sizes { IfOk result IsWithinLimits }
 {
-    let mut buffer = match zeros(alloc, BUFFER_SIZE) {
-        Ok(buffer) => buffer,
-        Err(error) => return Err(ReadRefused::OutOfMemory(error)),
-    };
-    let formula = match read_formula(alloc, source, &mut buffer) {
-        Ok(formula) => formula,
-        Err(refused) => return Err(refused),
-    };
-    match all_variables(alloc, formula.variables) {
-        Ok(shown) => Ok(Subject { formula, shown }),
+    match zero_bytes(alloc, PIECE_SIZE) {
+        Ok(mut buffer) => read_pieces(alloc, source, &mut buffer),
         Err(error) => Err(ReadRefused::OutOfMemory(error)),
     }
 }
 
-fn zeros(alloc: Global, size: usize) -> Result<Vec<u8>, AllocError>
+fn zero_bytes(alloc: Global, size: usize) -> Result<Vec<u8>, AllocError>
     ensures { IfOk result (λ v. vec_len v ≡ size) }
 {
     vec![in alloc; 0u8; size]
 }
 
-// The variables 1 to `count`.
-fn all_variables(alloc: Global, count: u32) -> Result<Items<u32>, AllocError>
-    ensures { IfOk result (λ items. items ≡ range_with_len 1 count) }
-{
-    let mut variables = Vec::new(alloc);
-    for before in 0..count {
-        variables.push(before + 1)?;
-    }
-    Ok(Items::from_vec(variables))
-}
-
 // Reads a text piece by piece.
-fn read_formula<S: Source>(
+fn read_pieces<S: Source>(
     alloc: Global,
     source: &mut S,
     buffer: &mut [u8],
-) -> Result<Formula, ReadRefused>
+) -> Result<Input, ReadRefused>
     requires { 0 < length buffer.old }
-    ensures { Reads (λ f. f)
+    ensures { ReadsText
         (S.left source.old) (S.left source.new)
         (S.faults source.old) (S.faults source.new) result }
 {
-    let mut reader = Reader::new(alloc);
+    let mut reader = TextReader::new(alloc);
     let mut count: usize = 0;
     loop {
         match source.take(buffer) {
             Err(_) => return Err(ReadRefused::ReadFault(reader.lines() + 1)),
-            Ok(0) => return judged(reader),
-            Ok(taken) => match next(&mut reader, count, &buffer[..taken]) {
+            Ok(0) => return reader.finish(),
+            Ok(taken) => match feed_next(&mut reader, count, &buffer[..taken]) {
                 Ok(more) => count = more,
-                Err(refused) => return Err(refused),
+                Err(failed) => return Err(failed),
             },
         }
     }
 }
 
-// Feeds the next piece, unless it makes the text too long, and counts its bytes.
-fn next(reader: &mut Reader, count: usize, piece: &[u8]) -> Result<usize, ReadRefused>
-    requires within { count ≤ BYTE_LIMIT }
+// Feeds the next piece, as far as the text may go on, and counts its bytes.
+fn feed_next(reader: &mut TextReader, count: usize, piece: &[u8]) -> Result<usize, ReadRefused>
+    requires within { count ≤ MOST_BYTES }
     requires lines { reader.old.state.lines ≤ count }
-    ensures { GoesOn reader.old count piece.now reader.new result }
+    ensures { FeedsOn reader.old count piece.now reader.new result }
 {
-    if piece.len() > BYTE_LIMIT - count {
-        return Err(ReadRefused::Text(TextRefused::NotBuilt { line: 1 }));
+    if piece.len() > MOST_BYTES - count {
+        return feed_last(reader, count, piece);
     }
-    match reader.feed(piece) {
-        Ok(()) => Ok(count + piece.len()),
-        Err(error) => Err(ReadRefused::OutOfMemory(error)),
+    if let Err(error) = reader.feed(piece) {
+        return Err(ReadRefused::OutOfMemory(error));
+    }
+    match reader.stopped() {
+        Some(refusal) => Err(ReadRefused::Text(refusal)),
+        None => Ok(count + piece.len()),
     }
 }
 
-// Judges the text that ends here.
-fn judged(reader: Reader) -> Result<Formula, ReadRefused>
-    ensures { Judges reader result }
+// Feeds what the text may still have of a piece that goes beyond.
+fn feed_last(reader: &mut TextReader, count: usize, piece: &[u8]) -> Result<usize, ReadRefused>
+    requires within { count ≤ MOST_BYTES }
+    requires lines { reader.old.state.lines ≤ count }
+    requires beyond { MOST_BYTES - count < length piece.now }
+    ensures { FeedsOn reader.old count piece.now reader.new result }
 {
-    match reader.finish() {
-        Ok(Some(formula)) => Ok(formula),
-        Ok(None) => Err(ReadRefused::Text(TextRefused::NotBuilt { line: 1 })),
-        Err(error) => Err(ReadRefused::OutOfMemory(error)),
+    if let Err(error) = reader.feed(&piece[..MOST_BYTES - count]) {
+        return Err(ReadRefused::OutOfMemory(error));
     }
+    let refusal = match reader.stopped() {
+        Some(refusal) => refusal,
+        None => TextRefused::TextTooLong {
+            line: reader.lines() + 1,
+        },
+    };
+    Err(ReadRefused::Text(refusal))
 }

@@ -1,14 +1,59 @@
-// Why a text is not read.
+// Why a text is refused: the name, the line, and the number in notes to the user.
 ghost use Rattle.std.specs.Prelude.{◌≡◌};
-ghost use Rattle.dimacs_front.specs.Refusals.{line_of};
+ghost use Rattle.dimacs_front.specs.Numbering.{number_of, name_of, line_of};
 
 use std::alloc::AllocError;
 use thiserror::Error;
 
-/// Why a text is refused, with the line.
+/// Why a text is refused, with the line, counted from 1.
 #[derive(Clone, Copy, Debug, PartialEq, Eq, Error)]
 pub enum TextRefused {
-    /// The text is none of those that this reader takes yet.
+    /// Before the header stands something that is neither a comment nor a header.
+    #[error("line {line}: neither a comment nor a header")]
+    BadStart { line: u64 },
+    /// The header is not `p cnf` with two numbers.
+    #[error("line {line}: the header is not `p cnf` with two numbers")]
+    BadHeader { line: u64 },
+    /// A second header.
+    #[error("line {line}: a second header")]
+    HeaderTwice { line: u64 },
+    /// The text ends without a header.
+    #[error("line {line}: there is no header")]
+    NoHeader { line: u64 },
+    /// A token among the clauses is no number.
+    #[error("line {line}: a token of a clause is no number")]
+    BadNumber { line: u64 },
+    /// A literal's variable is above the header's number of variables.
+    #[error("line {line}: a variable is above the header's number")]
+    VariableTooLarge { line: u64 },
+    /// The last clause has literals and no 0.
+    #[error("line {line}: the last clause has no 0")]
+    Unfinished { line: u64 },
+    /// The header names another number of clauses than there are.
+    #[error("line {line}: the header says {said} clauses, and there are {found}")]
+    ClauseCount { line: u64, said: u32, found: u32 },
+    /// A show line holds something that is no variable of the text.
+    #[error("line {line}: a show line holds something that is no variable")]
+    ShowBad { line: u64 },
+    /// A show line has no 0.
+    #[error("line {line}: a show line has no 0")]
+    ShowUnended { line: u64 },
+    /// The header names too many variables.
+    #[error("line {line}: too many variables")]
+    TooManyVariables { line: u64 },
+    /// The header names, or the text has, too many clauses.
+    #[error("line {line}: too many clauses")]
+    TooManyClauses { line: u64 },
+    /// The clauses have too many literals.
+    #[error("line {line}: too many literals")]
+    TooManyLiterals { line: u64 },
+    /// Too many variables are shown.
+    #[error("line {line}: too many variables are shown")]
+    TooManyShown { line: u64 },
+    /// The text has too many bytes.
+    #[error("line {line}: the text is too long")]
+    TextTooLong { line: u64 },
+    /// The first line names a saved or a met text.
     #[error("line {line}: texts of this form are not read yet")]
     NotBuilt { line: u64 },
 }
@@ -16,18 +61,72 @@ pub enum TextRefused {
 impl TextRefused {
     /// The number of the refusal in notes to the user.
     pub fn number(&self) -> u8
-        ensures { result ≡ 20 }
+        ensures { result ≡ number_of self.now }
     {
         match self {
+            TextRefused::BadStart { .. } => 1,
+            TextRefused::BadHeader { .. } => 2,
+            TextRefused::HeaderTwice { .. } => 3,
+            TextRefused::NoHeader { .. } => 4,
+            TextRefused::BadNumber { .. } => 5,
+            TextRefused::VariableTooLarge { .. } => 6,
+            TextRefused::Unfinished { .. } => 7,
+            TextRefused::ClauseCount { .. } => 8,
+            TextRefused::ShowBad { .. } => 9,
+            TextRefused::ShowUnended { .. } => 10,
+            TextRefused::TooManyVariables { .. } => 11,
+            TextRefused::TooManyClauses { .. } => 12,
+            TextRefused::TooManyLiterals { .. } => 13,
+            TextRefused::TooManyShown { .. } => 14,
+            TextRefused::TextTooLong { .. } => 15,
             TextRefused::NotBuilt { .. } => 20,
         }
     }
 
-    /// The line that is refused, counted from 1.
+    /// The name of the refusal in notes to the user.
+    pub fn name(&self) -> &'static str
+        ensures { result.now ≡ name_of self.now }
+    {
+        match self {
+            TextRefused::BadStart { .. } => "BadStart",
+            TextRefused::BadHeader { .. } => "BadHeader",
+            TextRefused::HeaderTwice { .. } => "HeaderTwice",
+            TextRefused::NoHeader { .. } => "NoHeader",
+            TextRefused::BadNumber { .. } => "BadNumber",
+            TextRefused::VariableTooLarge { .. } => "VariableTooLarge",
+            TextRefused::Unfinished { .. } => "Unfinished",
+            TextRefused::ClauseCount { .. } => "ClauseCount",
+            TextRefused::ShowBad { .. } => "ShowBad",
+            TextRefused::ShowUnended { .. } => "ShowUnended",
+            TextRefused::TooManyVariables { .. } => "TooManyVariables",
+            TextRefused::TooManyClauses { .. } => "TooManyClauses",
+            TextRefused::TooManyLiterals { .. } => "TooManyLiterals",
+            TextRefused::TooManyShown { .. } => "TooManyShown",
+            TextRefused::TextTooLong { .. } => "TextTooLong",
+            TextRefused::NotBuilt { .. } => "NotBuilt",
+        }
+    }
+
+    /// The line that is refused.
     pub fn line(&self) -> u64
         ensures { result ≡ line_of self.now }
     {
         match self {
+            TextRefused::BadStart { line } => *line,
+            TextRefused::BadHeader { line } => *line,
+            TextRefused::HeaderTwice { line } => *line,
+            TextRefused::NoHeader { line } => *line,
+            TextRefused::BadNumber { line } => *line,
+            TextRefused::VariableTooLarge { line } => *line,
+            TextRefused::Unfinished { line } => *line,
+            TextRefused::ClauseCount { line, .. } => *line,
+            TextRefused::ShowBad { line } => *line,
+            TextRefused::ShowUnended { line } => *line,
+            TextRefused::TooManyVariables { line } => *line,
+            TextRefused::TooManyClauses { line } => *line,
+            TextRefused::TooManyLiterals { line } => *line,
+            TextRefused::TooManyShown { line } => *line,
+            TextRefused::TextTooLong { line } => *line,
             TextRefused::NotBuilt { line } => *line,
         }
     }

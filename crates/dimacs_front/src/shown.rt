@@ -1,11 +1,12 @@
 // The variables that are shown.
-ghost use Rattle.std.specs.Prelude.{◌≡◌, ◌<◌, ◌-◌, ◌+◌, ◌≤◌, ℕ, false, length, get_or, vec_len, IfOk};
-ghost use Rattle.std.specs.List.{filter, range_with_len};
+ghost use Rattle.std.specs.Prelude.{◌≡◌, ◌<◌, ◌≤◌, ℕ, [], not, false, get_or, vec_len, IfOk, OnOk};
+ghost use Rattle.dimacs_front.specs.Grammar.{is_named, name_once};
 ghost use Rattle.dimacs_front.specs.Ending.{first_above, few, or_named, shown_of};
 
 use crate::{MOST_SHOWN, MOST_VARIABLES};
 use sat_terms::Items;
 use std::alloc::{AllocError, Global};
+use std::marker::Model;
 
 /// A variable of a show line, and the line's number.
 #[derive(Clone, Copy)]
@@ -14,71 +15,108 @@ pub struct Named {
     pub line: u64,
 }
 
-/// The line of the first show line that names a variable above this one.
-pub fn first_above(variables: u32, named: &[Named]) -> Option<u64>
-    ensures { result ≡ first_above variables named.now }
-{
-    for name in named {
-        if name.variable > variables {
-            return Some(name.line);
+/// The variables of the show lines, each once, with the first line that names it, and beside them a mark for
+/// each number up to the largest, which says whether it is one of them.
+#[derive(Drop)]
+pub struct ShowLines {
+    named: Vec<Named>,
+    marks: Vec<bool>,
+}
+
+impl Model for ShowLines {
+    ghost use Rattle.std.specs.Prelude.{◌≡◌, ℕ, List, false, get_or};
+    ghost use Rattle.dimacs_front.specs.declared.shown.Named.{Named};
+    ghost use Rattle.dimacs_front.specs.Grammar.{is_named};
+
+    ghost Value = { List Named };
+
+    ghost view = { λ s. s.named.items };
+
+    ghost invariant = { λ s. (v : ℕ) → get_or s.marks.items v false ≡ is_named s.named.items v };
+}
+
+impl ShowLines {
+    /// No show line. Takes no memory yet.
+    pub fn new(alloc: Global) -> Self
+        ensures { result ≡ [] }
+    {
+        ShowLines {
+            named: Vec::new(alloc),
+            marks: Vec::new(alloc),
         }
     }
-    None
-}
 
-/// The variables that are shown, where they are not too many. Takes one byte for each variable of the
-/// formula, and room for the shown ones.
-pub fn shown_variables(
-    alloc: Global,
-    given: bool,
-    named: &[Named],
-    variables: u32,
-) -> Result<Option<Items<u32>>, AllocError>
-    requires { variables ≤ MOST_VARIABLES }
-    ensures { IfOk result (λ shown. shown ≡ few (shown_of given named.now variables)) }
-{
-    let mut marks = same_marks(alloc, !given, variables as usize + 1)?;
-    mark_named(&mut marks, named);
-    marked(alloc, &marks)
-}
-
-// So many marks, all alike.
-fn same_marks(alloc: Global, mark: bool, count: usize) -> Result<Vec<bool>, AllocError>
-    ensures size { IfOk result (λ marks. vec_len marks ≡ count) }
-    ensures same { IfOk result (λ marks. (v : ℕ) → v < count → get_or marks.items v false ≡ mark) }
-{
-    vec![in alloc; mark; count]
-}
-
-// Marks each variable that is named and has a mark.
-fn mark_named(marks: &mut [bool], named: &[Named])
-    ensures size { length marks.new ≡ length marks.old }
-    ensures marked { (v : ℕ) → v < length marks.old
-        → get_or marks.new v false ≡ or_named (get_or marks.old v false) named.now v }
-{
-    for name in named {
-        let variable = name.variable as usize;
-        if variable < marks.len() {
-            marks[variable] = true;
+    /// Keeps a variable that this line names, unless it was named before. Its cost is constant on average.
+    pub fn add(&mut self, variable: u32, line: u64) -> Result<(), AllocError>
+        ensures { OnOk result (self.new ≡ name_once self.old (record { variable = variable; line = line })) }
+    {
+        if self.names(variable) {
+            return Ok(());
         }
+        reach(&mut self.marks, variable)?;
+        self.named.push(Named { variable, line })?;
+        self.marks[variable as usize] = true;
+        Ok(())
     }
-}
 
-// The variables from 1 that are marked, where they are not too many.
-fn marked(alloc: Global, marks: &[bool]) -> Result<Option<Items<u32>>, AllocError>
-    requires some { 0 < length marks.now }
-    requires limit { length marks.now ≤ MOST_VARIABLES + 1 }
-    ensures { IfOk result (λ shown. shown
-        ≡ few (filter (λ v. get_or marks.now v false) (range_with_len 1 (length marks.now - 1)))) }
-{
-    let mut shown = Vec::new(alloc);
-    for variable in 1..marks.len() {
-        if marks[variable] {
-            if shown.len() >= MOST_SHOWN {
-                return Ok(None);
+    // Whether a show line names the variable.
+    fn names(&self, variable: u32) -> bool
+        ensures { result ≡ is_named self.now variable }
+    {
+        self.marks.get(variable as usize).copied().unwrap_or(false)
+    }
+
+    /// The line of the first show line that names a variable above this one.
+    pub fn first_above(&self, variables: u32) -> Option<u64>
+        ensures { result ≡ first_above variables self.now }
+    {
+        for name in &self.named {
+            if name.variable > variables {
+                return Some(name.line);
             }
-            shown.push(variable as u32)?;
         }
+        None
     }
-    Ok(Some(Items::from_vec(shown)))
+
+    // Whether the variable is shown: each is, where no show line was given.
+    fn shows(&self, given: bool, variable: u32) -> bool
+        ensures { result ≡ or_named (not given) self.now variable }
+    {
+        !given || self.names(variable)
+    }
+
+    /// The variables from 1 to this one that are shown, where they are not too many. All of them are shown
+    /// where no show line was given.
+    pub fn shown(
+        &self,
+        alloc: Global,
+        given: bool,
+        variables: u32,
+    ) -> Result<Option<Items<u32>>, AllocError>
+        requires { variables ≤ MOST_VARIABLES }
+        ensures { IfOk result (λ shown. shown ≡ few (shown_of given self.now variables)) }
+    {
+        let mut shown = Vec::new(alloc);
+        for variable in 1..variables + 1 {
+            if self.shows(given, variable) {
+                if shown.len() >= MOST_SHOWN {
+                    return Ok(None);
+                }
+                shown.push(variable)?;
+            }
+        }
+        Ok(Some(Items::from_vec(shown)))
+    }
+}
+
+// Makes a mark for each number up to this one. The room at least doubles where it grows.
+fn reach(marks: &mut Vec<bool>, number: u32) -> Result<(), AllocError>
+    ensures reached { OnOk result (number < vec_len marks.new) }
+    ensures same { (v : ℕ) → get_or marks.new.items v false ≡ get_or marks.old.items v false }
+{
+    let count = number as usize + 1;
+    if marks.len() < count {
+        marks.resize(count, false)?;
+    }
+    Ok(())
 }

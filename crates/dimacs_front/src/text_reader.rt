@@ -7,7 +7,7 @@ ghost use Rattle.dimacs_front.specs.Whole.{text_at_start, eat_token, close_line,
 ghost use Rattle.dimacs_front.specs.Pieces.{Gives};
 
 use crate::text_state::TextState;
-use crate::{Input, ReadFailed, Refusal};
+use crate::{Input, ReadRefused, TextRefused};
 use dimacs_tokens::Seen;
 use dimacs_tokens::bytes::{is_newline, is_white};
 use std::alloc::{AllocError, Global};
@@ -19,7 +19,7 @@ use std::marker::Model;
 pub struct TextReader {
     lines: u64,
     state: TextState,
-    stopped: Option<Refusal>,
+    stopped: Option<TextRefused>,
     token: Seen,
     in_line: bool,
 }
@@ -55,7 +55,7 @@ impl TextReader {
     }
 
     /// The refusal of the lowest refused line among the complete ones.
-    pub fn stopped(&self) -> Option<Refusal>
+    pub fn stopped(&self) -> Option<TextRefused>
         ensures { result ≡ self.now.state.stopped }
     {
         self.stopped
@@ -121,13 +121,13 @@ impl TextReader {
 
     /// The answer of the text that ends here.
     #[tactic(auto, unfolding(dimacs_tokens::specs::Reading::text_ends))]
-    pub fn finish(mut self) -> Result<Input, ReadFailed>
+    pub fn finish(mut self) -> Result<Input, ReadRefused>
         requires { self.state.lines + 1 < 2 ^ 64 }
         ensures { Gives (answer (text_ends eat_token close_line self)) result }
     {
         if self.in_line {
             if let Err(error) = self.end_token() {
-                return Err(ReadFailed::OutOfMemory(error));
+                return Err(ReadRefused::OutOfMemory(error));
             }
             self.end_line();
         }
@@ -135,11 +135,11 @@ impl TextReader {
     }
 
     // The answer behind the last line.
-    fn answer(self) -> Result<Input, ReadFailed>
+    fn answer(self) -> Result<Input, ReadRefused>
         ensures { Gives (answer self.state) result }
     {
         if let Some(refusal) = self.stopped {
-            return Err(ReadFailed::Text(refusal));
+            return Err(ReadRefused::Text(refusal));
         }
         self.state.finish(self.lines.max(1))
     }

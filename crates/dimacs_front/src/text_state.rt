@@ -6,16 +6,16 @@ ghost use Rattle.dimacs_front.specs.Ending.{end_refusal, end_of};
 ghost use Rattle.dimacs_front.specs.Pieces.{Gives};
 
 use crate::line_place::{LinePlace, natural};
-use crate::shown::{Named, first_above, shown_variables};
+use crate::shown::ShowLines;
 use crate::written::Written;
-use crate::{Input, MOST_CLAUSES, MOST_LITERALS, MOST_VARIABLES, ReadFailed, Refusal};
+use crate::{Input, MOST_CLAUSES, MOST_LITERALS, MOST_VARIABLES, ReadRefused, TextRefused};
 use dimacs_tokens::Seen;
 use sat_terms::Subject;
 use std::alloc::{AllocError, Global};
 use std::marker::Model;
 
 /// The place in the line, whether there was a header, the formula below it, whether a show line was ended,
-/// and the variables of all show lines.
+/// and the variables of all show lines, each once.
 #[derive(Drop)]
 pub struct TextState {
     alloc: Global,
@@ -23,7 +23,7 @@ pub struct TextState {
     started: bool,
     formula: Written,
     given: bool,
-    named: Vec<Named>,
+    named: ShowLines,
 }
 
 impl Model for TextState {
@@ -36,7 +36,7 @@ impl Model for TextState {
       started = s.started;
       formula = s.formula;
       given = s.given;
-      named = s.named.items;
+      named = s.named;
     } };
 }
 
@@ -51,7 +51,7 @@ impl TextState {
             started: false,
             formula: Written::new(alloc, 0, 0),
             given: false,
-            named: Vec::new(alloc),
+            named: ShowLines::new(alloc),
         }
     }
 
@@ -91,7 +91,7 @@ impl TextState {
         ensures { OnOk result (self.new ≡ below_begun line self.old token.now) }
     {
         if token.begins_with(b'p') {
-            self.place = LinePlace::Refused(Refusal::HeaderTwice { line });
+            self.place = LinePlace::Refused(TextRefused::HeaderTwice { line });
             return Ok(());
         }
         if token.begins_with(b'%') {
@@ -109,7 +109,7 @@ impl TextState {
             Some(0) => self.eat_zero(line),
             Some(literal) => self.eat_literal(line, literal),
             None => {
-                self.place = LinePlace::Refused(Refusal::BadNumber { line });
+                self.place = LinePlace::Refused(TextRefused::BadNumber { line });
                 Ok(())
             }
         }
@@ -120,7 +120,7 @@ impl TextState {
         ensures { OnOk result (self.new ≡ zero_eaten line self.old) }
     {
         if self.formula.found() >= MOST_CLAUSES {
-            self.place = LinePlace::Refused(Refusal::TooManyClauses { line });
+            self.place = LinePlace::Refused(TextRefused::TooManyClauses { line });
             return Ok(());
         }
         self.formula.end_clause()?;
@@ -134,11 +134,11 @@ impl TextState {
         ensures { OnOk result (self.new ≡ literal_eaten line self.old literal) }
     {
         if literal.unsigned_abs() > u64::from(self.formula.variables()) {
-            self.place = LinePlace::Refused(Refusal::VariableTooLarge { line });
+            self.place = LinePlace::Refused(TextRefused::VariableTooLarge { line });
             return Ok(());
         }
         if self.formula.literals() >= MOST_LITERALS {
-            self.place = LinePlace::Refused(Refusal::TooManyLiterals { line });
+            self.place = LinePlace::Refused(TextRefused::TooManyLiterals { line });
             return Ok(());
         }
         self.formula.add_literal(literal as i32)?;
@@ -156,9 +156,9 @@ impl TextState {
                 self.place = LinePlace::ShowEnd;
             }
             Some(variable) if variable <= MOST_VARIABLES => {
-                self.named.push(Named { variable, line })?;
+                self.named.add(variable, line)?;
             }
-            _ => self.place = LinePlace::Refused(Refusal::ShowBad { line }),
+            _ => self.place = LinePlace::Refused(TextRefused::ShowBad { line }),
         }
         Ok(())
     }
@@ -180,9 +180,9 @@ impl TextState {
         ensures { self.new ≡ header_ended line self.old variables clauses }
     {
         if variables > MOST_VARIABLES {
-            self.place = LinePlace::Refused(Refusal::TooManyVariables { line });
+            self.place = LinePlace::Refused(TextRefused::TooManyVariables { line });
         } else if clauses > MOST_CLAUSES {
-            self.place = LinePlace::Refused(Refusal::TooManyClauses { line });
+            self.place = LinePlace::Refused(TextRefused::TooManyClauses { line });
         } else {
             self.formula = Written::new(self.alloc, variables, clauses);
             self.started = true;
@@ -191,7 +191,7 @@ impl TextState {
     }
 
     /// The refusal of a line, if there is one.
-    pub fn refusal(&self) -> Option<Refusal>
+    pub fn refusal(&self) -> Option<TextRefused>
         ensures { result ≡ refusal_at self.now.place }
     {
         self.place.refusal()
@@ -199,44 +199,44 @@ impl TextState {
 
     // The first refusal of the end, but for too many shown variables.
     #[tactic(auto, unfolding(crate::specs::Ending::end_refusal))]
-    fn end_refusal(&self, line: u64) -> Option<Refusal>
+    fn end_refusal(&self, line: u64) -> Option<TextRefused>
         ensures { result ≡ end_refusal line self.now }
     {
         if !self.started {
-            return Some(Refusal::NoHeader { line });
+            return Some(TextRefused::NoHeader { line });
         }
         if !self.formula.is_ended() {
-            return Some(Refusal::Unfinished { line });
+            return Some(TextRefused::Unfinished { line });
         }
         let said = self.formula.said();
         let found = self.formula.found();
         if found != said {
-            return Some(Refusal::ClauseCount { line, said, found });
+            return Some(TextRefused::ClauseCount { line, said, found });
         }
-        match first_above(self.formula.variables(), &self.named) {
-            Some(line) => Some(Refusal::ShowBad { line }),
+        match self.named.first_above(self.formula.variables()) {
+            Some(line) => Some(TextRefused::ShowBad { line }),
             None => None,
         }
     }
 
     /// The input of a text that ends in this line, or why it is refused.
     #[tactic(auto, unfolding(crate::specs::Ending::end_of))]
-    pub fn finish(self, line: u64) -> Result<Input, ReadFailed>
+    pub fn finish(self, line: u64) -> Result<Input, ReadRefused>
         ensures { Gives (end_of line self) result }
     {
         if let Some(refusal) = self.end_refusal(line) {
-            return Err(ReadFailed::Text(refusal));
+            return Err(ReadRefused::Text(refusal));
         }
         let variables = self.formula.variables();
-        match shown_variables(self.alloc, self.given, &self.named, variables) {
+        match self.named.shown(self.alloc, self.given, variables) {
             Ok(Some(shown)) => {
                 let formula = self.formula.into_formula();
                 Ok(Input {
                     subject: Subject { formula, shown },
                 })
             }
-            Ok(None) => Err(ReadFailed::Text(Refusal::TooManyShown { line })),
-            Err(error) => Err(ReadFailed::OutOfMemory(error)),
+            Ok(None) => Err(ReadRefused::Text(TextRefused::TooManyShown { line })),
+            Err(error) => Err(ReadRefused::OutOfMemory(error)),
         }
     }
 }

@@ -13,6 +13,8 @@
 
 #[cfg(test)]
 mod checked;
+#[cfg(test)]
+mod projection_tests;
 mod scan;
 mod search;
 mod shrink;

@@ -9,7 +9,7 @@ use std::process::Abort;
 use std::test::Fail;
 
 /// The clause of these literals; 0 is left out.
-fn clause(alloc: Global, lits: &[i32]) -> Result<Clause, AllocError> {
+pub(crate) fn clause(alloc: Global, lits: &[i32]) -> Result<Clause, AllocError> {
     let mut kept = Vec::new(alloc);
     for lit in lits {
         let variable = lit.unsigned_abs();
@@ -41,7 +41,11 @@ fn subject(
 }
 
 /// The cubes of this subject.
-fn listed(rt: &impl Abort, alloc: Global, subject: &Subject) -> Result<Vec<Cube>, AllocError> {
+pub(crate) fn listed(
+    rt: &impl Abort,
+    alloc: Global,
+    subject: &Subject,
+) -> Result<Vec<Cube>, AllocError> {
     assert!(rt; is_subject(subject));
     enumerate_plain(alloc, subject)
 }

@@ -1,8 +1,5 @@
-use Rattle.std.proofs.Common.{◌∙◌, ◌++◌, ◌∷◌, [], ap}
-use Rattle.cube_text.proofs.Handing.{Hands-more, Hands-along}
+use Rattle.cube_text.proofs.Handing.{Hands-more}
 use Rattle.allsat_run.proofs.notes.put_number_line.Goals as goal
 
 pub returns : goal.returns
-returns g c =
-    Hands-along _ _ _ _ _ _ _ _ (ap (λ digits. digits ++ 10 ∷ []) (c.as_bytes.ensures.value ∙ c.format.ensures.text))
-    (Hands-more _ _ _ _ _ _ _ _ _ _ _ c.put.ensures c.put-2.ensures)
+returns g c = Hands-more _ _ _ _ _ _ _ _ _ _ _ c.put_number.ensures c.put.ensures

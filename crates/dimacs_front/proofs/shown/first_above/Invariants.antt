@@ -1,6 +1,0 @@
-use Rattle.std.proofs.Common.{◌≡◌, drop}
-use Rattle.dimacs_front.specs.Ending.{first_above}
-use Rattle.dimacs_front.proofs.shown.first_above.Given as goal
-
-abbrev pub invariant-loop-name : goal.invariant-loop-name
-invariant-loop-name l = first_above l.variables l.named ≡ first_above l.variables (drop l.name-index l.named)

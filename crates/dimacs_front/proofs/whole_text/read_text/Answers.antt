@@ -1,9 +1,0 @@
-use Rattle.dimacs_front.proofs.TakingText.{text_told}
-use Rattle.dimacs_front.proofs.Sound.{text_limits}
-use Rattle.dimacs_front.proofs.whole_text.read_text.Goals as goal
-
-pub returns-in-Ok-clause-told : goal.returns-in-Ok-clause-told
-returns-in-Ok-clause-told g c = text_told _ _ _ _ _ c.read_pieces.ensures
-
-pub returns-in-Ok-clause-sizes : goal.returns-in-Ok-clause-sizes
-returns-in-Ok-clause-sizes g c = text_limits _ _ _ _ _ c.read_pieces.ensures

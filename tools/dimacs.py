@@ -1,0 +1,222 @@
+#!/usr/bin/env python3
+"""The checker's own reader of DIMACS CNF with projection lines, written from docs/FORMATS.md
+("The whole grammar").
+
+    tools/dimacs.py < TEXT
+
+As a module, `read` answers what a text says: a Formula or a Refused. Run by itself, it prints
+that for the text on its standard input: the numbers of variables, clauses and shown variables, or
+the note of the refusal.
+"""
+import re
+import sys
+from collections import namedtuple
+
+# The clauses are as written; the shown variables rise.
+Formula = namedtuple("Formula", "variables clauses shown")
+Limits = namedtuple("Limits", "bytes variables clauses literals shown")
+
+LIMITS = Limits(
+    bytes=2**30,
+    variables=1_000_000,
+    clauses=4_000_000,
+    literals=16_000_000,
+    shown=4_096,
+)
+MOST_SHOWN_VARIABLE = 1_000_000
+
+NUMBERS = {
+    "BadStart": 1,
+    "BadHeader": 2,
+    "HeaderTwice": 3,
+    "NoHeader": 4,
+    "BadNumber": 5,
+    "VariableTooLarge": 6,
+    "Unfinished": 7,
+    "ClauseCount": 8,
+    "ShowBad": 9,
+    "ShowUnended": 10,
+    "TooManyVariables": 11,
+    "TooManyClauses": 12,
+    "TooManyLiterals": 13,
+    "TooManyShown": 14,
+    "TextTooLong": 15,
+    "NotBuilt": 20,
+}
+
+
+class Refused(Exception):
+    """A refusal: its name, its line, and for ClauseCount the numbers that were said and found."""
+
+    def __init__(self, name, line, said=None, found=None):
+        super().__init__(name, line, said, found)
+        self.name, self.line, self.said, self.found = name, line, said, found
+
+    def note(self):
+        """The line that the program writes on standard error, without its line end."""
+        note = "allsat: input refused: %d %s line %d" % (NUMBERS[self.name], self.name, self.line)
+        return note if self.said is None else note + " said %d found %d" % (self.said, self.found)
+
+
+def complete_lines(data):
+    """The lines that byte 10 ends."""
+    return data.split(b"\n")[:-1]
+
+
+def all_lines(data):
+    """The lines that byte 10 ends, and the bytes behind them as one more if there are any."""
+    lines = data.split(b"\n")
+    return lines if lines[-1] else lines[:-1]
+
+
+def tokens_of(line):
+    """The longest runs of bytes other than 9, 11, 12, 13 and 32."""
+    return re.findall(rb"[^\x09\x0b\x0c\x0d\x20]+", line)
+
+
+def number_of(token):
+    """The value of a token, or None where it is no number.
+
+    A value of more than 18 digits is above every limit, and only that counts of it: 10^18 stands
+    for it.
+    """
+    form = re.fullmatch(rb"(-?)([0-9]+)", token)
+    if not form:
+        return None
+    digits = form[2].lstrip(b"0")
+    size = int(digits or b"0") if len(digits) <= 18 else 10**18
+    if not form[1]:
+        return size
+    return -size if size else None
+
+
+class Reader:
+    """What the lines so far say."""
+
+    def __init__(self, limits):
+        self.limits = limits
+        self.header = None  # the numbers of variables and of clauses that were said
+        self.clauses = []
+        self.clause = []  # the literals that stand behind the last 0
+        self.literals = 0
+        self.shows = []  # for each show line its number and its variables
+        self.ended = False  # whether a line that begins with % came
+
+    def line(self, number, line):
+        """Reads a line, or raises its refusal."""
+        tokens = tokens_of(line)
+        if number == 1 and tokens[:3] in ([b"c", b"allsat", b"saved"], [b"c", b"allsat", b"met"]):
+            raise Refused("NotBuilt", 1)
+        if self.ended or not tokens:
+            return
+        first = tokens[0][:1]
+        if first == b"c":
+            if tokens[:3] == [b"c", b"p", b"show"]:
+                self.show_line(number, tokens[3:])
+        elif first == b"p":
+            self.header_line(number, tokens)
+        elif self.header is None:
+            raise Refused("BadStart", number)
+        elif first == b"%":
+            self.ended = True
+        else:
+            for token in tokens:
+                self.clause_token(number, token)
+
+    def header_line(self, number, tokens):
+        if self.header is not None:
+            raise Refused("HeaderTwice", number)
+        if len(tokens) != 4 or tokens[:2] != [b"p", b"cnf"]:
+            raise Refused("BadHeader", number)
+        variables, clauses = number_of(tokens[2]), number_of(tokens[3])
+        if variables is None or variables < 0 or clauses is None or clauses < 0:
+            raise Refused("BadHeader", number)
+        if variables > self.limits.variables:
+            raise Refused("TooManyVariables", number)
+        if clauses > self.limits.clauses:
+            raise Refused("TooManyClauses", number)
+        self.header = variables, clauses
+
+    def clause_token(self, number, token):
+        value = number_of(token)
+        if value is None:
+            raise Refused("BadNumber", number)
+        if value == 0:
+            if len(self.clauses) == self.limits.clauses:
+                raise Refused("TooManyClauses", number)
+            self.clauses.append(self.clause)
+            self.clause = []
+            return
+        if abs(value) > self.header[0]:
+            raise Refused("VariableTooLarge", number)
+        if self.literals == self.limits.literals:
+            raise Refused("TooManyLiterals", number)
+        self.literals += 1
+        self.clause.append(value)
+
+    def show_line(self, number, tokens):
+        variables = []
+        for place, token in enumerate(tokens):
+            value = number_of(token)
+            if value is None or value < 0 or value > MOST_SHOWN_VARIABLE:
+                raise Refused("ShowBad", number)
+            if value == 0:
+                if place + 1 < len(tokens):
+                    raise Refused("ShowBad", number)
+                self.shows.append((number, variables))
+                return
+            variables.append(value)
+        raise Refused("ShowUnended", number)
+
+    def end(self, last):
+        """The formula, after a last line with this number; or raises the refusal of the end."""
+        if self.header is None:
+            raise Refused("NoHeader", last)
+        if self.clause:
+            raise Refused("Unfinished", last)
+        variables, said = self.header
+        if len(self.clauses) != said:
+            raise Refused("ClauseCount", last, said, len(self.clauses))
+        for number, shown in self.shows:
+            if any(variable > variables for variable in shown):
+                raise Refused("ShowBad", number)
+        shown = range(1, variables + 1)
+        if self.shows:
+            shown = sorted({variable for _, names in self.shows for variable in names})
+        if len(shown) > self.limits.shown:
+            raise Refused("TooManyShown", last)
+        return Formula(variables, self.clauses, list(shown))
+
+
+def read_or_raise(data, limits):
+    reader = Reader(limits)
+    if len(data) > limits.bytes:
+        lines = complete_lines(data[: limits.bytes])
+        for number, line in enumerate(lines, 1):
+            reader.line(number, line)
+        raise Refused("TextTooLong", len(lines) + 1)
+    lines = all_lines(data)
+    for number, line in enumerate(lines, 1):
+        reader.line(number, line)
+    return reader.end(max(len(lines), 1))
+
+
+def read(data, limits=LIMITS):
+    """What the bytes say: a Formula or a Refused."""
+    try:
+        return read_or_raise(data, limits)
+    except Refused as refused:
+        return refused
+
+
+def main():
+    said = read(sys.stdin.buffer.read())
+    if isinstance(said, Refused):
+        print(said.note())
+        sys.exit(1)
+    numbers = (said.variables, len(said.clauses), len(said.shown))
+    print("a formula: %d variables, %d clauses, %d shown" % numbers)
+
+
+if __name__ == "__main__":
+    main()
