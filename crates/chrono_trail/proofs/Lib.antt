@@ -4,3 +4,4 @@ pub mod Tables
 pub mod Back
 pub mod Frees
 pub mod Pictures
+pub mod Levels

@@ -1,4 +1,6 @@
--- Literals and clauses under a trail. A clause is the set of its literals. By `has_pair` of the picture a clause may hold a literal and its negation; as a trail has one literal of a variable, such a clause is never false or unit.
+-- Literals and clauses under a trail. A clause is the set of its literals. By `has_pair` of the
+-- picture a clause may hold a literal and its negation; as a trail has one literal of a variable,
+-- such a clause is never false or unit.
 use Rattle.std.specs.Prelude.{◌≡◌, ℕ, Bool, true, cond, ◌&&◌, ◌||◌, nat_le, max, List, [], ◌∷◌, ℤ, neg_ℤ, nat_abs, Option, Some, None}
 use Rattle.std.specs.List.{list_any, list_all}
 use Rattle.std.specs.Ordering.{int_eq}
@@ -40,4 +42,5 @@ level_or_zero (Some i) = i.level
 -- The greatest level of the literals of the clause other than l, or 0.
 abbrev pub rest_level : List Item → ℤ → List ℤ → ℕ
 rest_level items l [] = 0
-rest_level items l (m ∷ c) = max (cond (int_eq m l) 0 (level_or_zero (item_of items (nat_abs m)))) (rest_level items l c)
+rest_level items l (m ∷ c) =
+    max (cond (int_eq m l) 0 (level_or_zero (item_of items (nat_abs m)))) (rest_level items l c)

@@ -1,5 +1,5 @@
 -- The items of a trail, the oldest first, and what they say of a variable.
-use Rattle.std.specs.Prelude.{ℕ, suc, ◌<◌, Bool, true, false, cond, ◌&&◌, nat_eq, nat_lt, nat_le, List, [], ◌∷◌, find, ℤ, nat_abs, Option, Some, None, is_none}
+use Rattle.std.specs.Prelude.{◌≡◌, ℕ, suc, ◌<◌, Bool, true, false, cond, ◌&&◌, nat_eq, nat_lt, nat_le, List, [], ◌∷◌, length, find, slice_index_or, ℤ, nat_abs, Option, Some, None, is_none}
 use Rattle.std.specs.List.{list_any}
 use Rattle.std.specs.Ordering.{int_eq}
 use Rattle.chrono_trail.specs.declared.item.Kind.{Kind}
@@ -32,6 +32,10 @@ value_in l (Some i) = Some (int_eq i.lit l)
 abbrev pub upto : ℕ → Item → Bool
 upto k i = nat_le i.level k
 
+-- The item at the place n, where there is one, is above level k.
+abbrev pub IsAboveAt : ℕ → List Item → ℕ → Type 0
+IsAboveAt k items n = (d : Item) → n < length items → upto k (slice_index_or items n d) ≡ false
+
 -- The item is of one of the variables 1 to n.
 abbrev pub is_within : ℕ → Item → Bool
 is_within n i = nat_lt 0 (nat_abs i.lit) && nat_le (nat_abs i.lit) n
@@ -58,7 +62,8 @@ abbrev pub depth_from : ℕ → List Item → ℕ
 depth_from k [] = k
 depth_from k (i ∷ later) = depth_from (level_after k i) later
 
--- The item may stand where level k is current: a decision opens the next level, and no other item is above k.
+-- The item may stand where level k is current: a decision opens the next level, and no other item
+-- is above k.
 abbrev pub may_stand : ℕ → Item → Bool
 may_stand k i = cond (is_decided i.kind) (nat_eq i.level (suc k)) (nat_le i.level k)
 

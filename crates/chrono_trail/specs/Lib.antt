@@ -2,3 +2,4 @@ pub mod Items
 pub mod Trails
 pub mod Clauses
 pub mod Pictures
+pub mod Laws

@@ -1,4 +1,5 @@
--- The items of the code as the trail of the picture, which has the newest item first and clauses in place of their numbers.
+-- The items of the code as the trail of the picture, which has the newest item first and clauses in
+-- place of their numbers.
 use Rattle.std.specs.Prelude.{List, [], ◌∷◌, ◌++◌, ℤ, slice_index_or}
 use Rattle.search_region.specs.Trail as picture
 use Rattle.chrono_trail.specs.declared.item.Kind.{Kind}

@@ -10,7 +10,9 @@ pub record TrailView : Type 0 where
   pub items : List Item
   pub level : ℕ
 
--- The items are of distinct variables among 1 to n. Each level from 1 to the current one has just one decision, in this order; each other item is of a level of at most that of the last decision before it, or 0.
+-- The items are of distinct variables among 1 to n. Each level from 1 to the current one has just
+-- one decision, in this order; each other item is of a level of at most that of the last decision
+-- before it, or 0.
 pub record IsTrail (n : ℕ) (items : List Item) (level : ℕ) : Type 0 where
   pub small : n < 2 ^ 31
   pub within : list_all (is_within n) items ≡ true

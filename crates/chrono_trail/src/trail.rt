@@ -1,7 +1,10 @@
 //! The trail, with a table of its items by variable.
-ghost use Rattle.std.specs.Prelude.{◌≡◌, ℕ, ◌+◌, ◌<◌, ◌≤◌, ◌^◌, ◌++◌, true, false, cond, [], ◌∷◌, None, IfOk, nat_abs, length, slice_set, slice_index_or, filter, take, vec_len, vec_capacity};
+ghost use Rattle.std.specs.Prelude.{◌≡◌, ℕ, ◌+◌, ◌<◌, ◌≤◌, ◌^◌, ◌++◌, true, false, cond, [], ◌∷◌};
+ghost use Rattle.std.specs.Prelude.{None, IfOk, nat_abs, length, slice_set, slice_index_or, filter};
+ghost use Rattle.std.specs.Prelude.{take, vec_len, vec_capacity};
 ghost use Rattle.std.specs.List.{All, list_all};
-ghost use Rattle.chrono_trail.specs.Items.{item_of, level_in, value_in, is_decided, upto, depth_from, may_all_stand, HasPlace, goes};
+ghost use Rattle.chrono_trail.specs.Items.{item_of, level_in, value_in, is_decided, upto};
+ghost use Rattle.chrono_trail.specs.Items.{depth_from, may_all_stand, IsAboveAt, HasPlace, goes};
 ghost use Rattle.chrono_trail.specs.Trails.{IsTrail};
 
 use crate::item::{Item, Kind};
@@ -28,8 +31,8 @@ impl Model for Trail {
 }
 
 impl Trail {
-    /// A trail of no items at level 0, for the variables 1 to `variables`. It takes the memory for an item of
-    /// each; no later call takes any.
+    /// A trail of no items at level 0, for the variables 1 to `variables`. It takes the memory for
+    /// an item of each; no later call takes any.
     pub fn make(alloc: Global, variables: u32) -> Result<Trail, AllocError>
         requires { variables < 2 ^ 31 }
         ensures variables { IfOk result (λ trail. trail.variables ≡ variables) }
@@ -60,7 +63,8 @@ impl Trail {
         self.level
     }
 
-    /// Whether a literal is true or false; None where its variable is unassigned. It looks at one place.
+    /// Whether a literal is true or false; None where its variable is unassigned. It looks at one
+    /// place.
     pub fn value(&self, lit: i32) -> Option<bool>
         requires { nat_abs lit ≤ self.now.variables }
         ensures { result ≡ value_in lit (item_of self.now.items (nat_abs lit)) }
@@ -118,8 +122,8 @@ impl Trail {
         self.level = level;
     }
 
-    /// Takes the levels above this one back: what stands on this level or below stays, in its order. It looks
-    /// at no item before the first one that goes.
+    /// Takes the levels above this one back: what stands on this level or below stays, in its
+    /// order. It looks at no item before the first one that goes.
     pub fn backtrack(&mut self, level: u32)
         requires { level ≤ self.old.level }
         ensures items { self.new.items ≡ filter (upto level) self.old.items }
@@ -170,6 +174,7 @@ fn first_above(items: &[Item], current: u32, level: u32) -> usize
     requires current { current ≡ depth_from 0 items.now }
     ensures within { result ≤ length items.now }
     ensures low { list_all (upto level) (take result items.now) ≡ true }
+    ensures first { IsAboveAt level items.now result }
 {
     let mut start = items.len();
     let mut above = current - level;
@@ -196,7 +201,8 @@ fn free(given: &mut Vec<Option<Item>>, items: &[Item], least: u32)
     }
 }
 
-/// Keeps the items of this level and below, in their order. Those before `start` are, and are not looked at.
+/// Keeps the items of this level and below, in their order. Those before `start` are, and are not
+/// looked at.
 fn keep_upto(items: &mut Vec<Item>, start: usize, level: u32)
     requires within { start ≤ length items.old.items }
     requires low { list_all (upto level) (take start items.old.items) ≡ true }

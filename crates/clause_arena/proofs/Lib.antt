@@ -1,3 +1,4 @@
+pub mod Kept
 pub mod Laid
 pub mod Literals
 pub mod Making

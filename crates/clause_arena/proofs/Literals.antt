@@ -1,15 +1,15 @@
 -- Each literal once: one more literal at the end, and the law.
-use Rattle.std.proofs.Common.{◌≡◌, ℕ, ◌+◌, ◌<◌, ◌≤◌, Bool, true, false, not, cond, ◌||◌, List, [], ◌∷◌, ◌++◌, length, take, get_or, ℤ, pos, refl, sym, ap, ◌∙◌, inl, inr, arith, append-nil}
-use Rattle.std.specs.List.{AllPairs, list_any}
+use Rattle.std.proofs.Common.{◌≡◌, ◌≢◌, ℕ, ◌+◌, ◌<◌, ◌≤◌, Bool, true, false, not, cond, ◌||◌, List, [], ◌∷◌, ◌++◌, length, take, get_or, ℤ, pos, refl, sym, ap, ◌∙◌, inl, inr, arith, append-nil}
+use Rattle.std.specs.List.{list_any}
 use Rattle.std.specs.Ordering.{int_eq}
-use Rattle.std.proofs.lemmas.Bool.{both_ways, or_cases, or_parts, cases_Bool, not-true, false_from_ne_true}
+use Rattle.std.proofs.lemmas.Bool.{both_ways, or_cases, or_parts, cases_Bool, not-true}
 use Rattle.std.proofs.lemmas.Bool.Decides.{Decides-int_eq}
 use Rattle.std.proofs.lemmas.List.{take_more}
 use Rattle.std.proofs.lemmas.List.Elements.{filter-append, filter_passes, All-weaker}
 use Rattle.std.proofs.lemmas.List.Filters.{length-filter_both}
 use Rattle.std.proofs.lemmas.List.Kept.{AllPairs-cons, AllPairs-filter}
 use Rattle.sat_terms.specs.Cubes.{has_literal}
-use Rattle.clause_arena.specs.Once.{without, once, KeepsEachOnce}
+use Rattle.clause_arena.specs.Once.{without, once, HasEachOnce, KeepsEachOnce}
 
 -- a literal that was not there joins at the end, and one that was does not
 pub once-push_new : (c : List ℤ) (l : ℤ) → has_literal c l ≡ false → once (c ++ l ∷ []) ≡ once c ++ l ∷ []
@@ -65,15 +65,15 @@ has_literal-once (m ∷ c) l =
       | inr other ↦ ap (λ (b : Bool). int_eq l m || b) (has_literal-without m l other (once c) ∙ has_literal-once c l)
     ]
 
-once-distinct : (c : List ℤ) → AllPairs (λ l m. int_eq l m ≡ false) (once c)
+pub once-distinct : (c : List ℤ) → HasEachOnce (once c)
 once-distinct [] = λ i j d before inside. absurd (omega arith)
 once-distinct (m ∷ c) =
-    AllPairs-cons (λ l x. int_eq l x ≡ false) m (without m (once c))
-    (All-weaker (λ x. not (int_eq x m) ≡ true) (λ x. int_eq m x ≡ false) turned (without m (once c)) (filter_passes (λ x. not (int_eq x m)) (once c)))
-    (AllPairs-filter (λ l x. int_eq l x ≡ false) (λ x. not (int_eq x m)) (once c) (once-distinct c))
+    AllPairs-cons (λ l x. l ≢ x) m (without m (once c))
+    (All-weaker (λ x. not (int_eq x m) ≡ true) (λ x. m ≢ x) differs (without m (once c)) (filter_passes (λ x. not (int_eq x m)) (once c)))
+    (AllPairs-filter (λ l x. l ≢ x) (λ x. not (int_eq x m)) (once c) (once-distinct c))
   where
-    turned : (x : ℤ) → not (int_eq x m) ≡ true → int_eq m x ≡ false
-    turned x h = false_from_ne_true (int_eq m x) (λ same. both_ways (int_eq x m) (not-true (int_eq x m) h) ((Decides-int_eq x m).1 (sym ((Decides-int_eq m x).0 same))))
+    differs : (x : ℤ) → not (int_eq x m) ≡ true → m ≢ x
+    differs x h same = both_ways (int_eq x m) (not-true (int_eq x m) h) ((Decides-int_eq x m).1 (sym same))
 
 pub keeps_each_once : (c : List ℤ) → KeepsEachOnce c
 keeps_each_once c = record { same = has_literal-once c; distinct = once-distinct c }

@@ -6,6 +6,7 @@ use Rattle.std.proofs.lemmas.List.Sums.{sum_by_more, sum_by-take-le}
 use Rattle.sat_terms.specs.Subjects.{IsFormula}
 use Rattle.clause_arena.specs.Layout.{pieces, AreEnds, IsLaidOut}
 use Rattle.clause_arena.specs.Once.{once}
+use Rattle.clause_arena.proofs.Kept.{arena_made}
 use Rattle.clause_arena.proofs.Literals.{length-once}
 use Rattle.clause_arena.proofs.Pieces.{length-pieces, ends-push, pieces_grow}
 
@@ -56,7 +57,9 @@ made_laid n lits ends f i base g all is h =
     let last : get_or (0 ∷ ends) base 0 ≡ length lits = ap (λ k. get_or (0 ∷ ends) k 0) is ∙ last_end 0 ends (length lits) h.filled in
     let short = made_short n lits ends f i g h in
     let few = g.clauses in
+    let clauses : pieces lits 0 ends ≡ map once f = h.clauses ∙ ap (map once) (take_all i f all) in
     record {
+      arena = arena_made n f (pieces lits 0 ends) base g clauses (omega (arith, length-pieces lits 0 ends));
       filled = h.filled;
       based = omega arith;
       clauses = omega arith;

@@ -58,7 +58,7 @@ pieces_grow lits new ends e h k =
     ∙ ap₂ (λ (cs : List (List ℤ)) (c : List ℤ). cs ++ c ∷ []) (pieces-append lits new 0 ends (length lits) h (omega arith)) last
 
 -- the first k clauses
-pub pieces_taken : (lits : List ℤ) (start : ℕ) (ends : List ℕ) (k : ℕ) → pieces lits start (take k ends) ≡ take k (pieces lits start ends)
+pieces_taken : (lits : List ℤ) (start : ℕ) (ends : List ℕ) (k : ℕ) → pieces lits start (take k ends) ≡ take k (pieces lits start ends)
 pieces_taken lits start ends zero = refl
 pieces_taken lits start [] (suc k) = refl
 pieces_taken lits start (e ∷ ends) (suc k) = ap (λ cs. take (e - start) (drop start lits) ∷ cs) (pieces_taken lits e ends k)
@@ -68,10 +68,17 @@ ends_taken start ends stop zero h i = refl
 ends_taken start [] stop (suc k) h i = absurd (omega arith)
 ends_taken start (e ∷ ends) stop (suc k) h i = (h.0, ends_taken e ends stop k h.1 (omega arith))
 
-pub pieces_cut : (lits : List ℤ) (ends : List ℕ) (stop : ℕ) → AreEnds 0 ends stop → stop ≤ length lits → pieces (take stop lits) 0 ends ≡ pieces lits 0 ends
+pieces_cut : (lits : List ℤ) (ends : List ℕ) (stop : ℕ) → AreEnds 0 ends stop → stop ≤ length lits → pieces (take stop lits) 0 ends ≡ pieces lits 0 ends
 pieces_cut lits ends stop h l =
     sym (pieces-append (take stop lits) (drop stop lits) 0 ends stop h (omega (arith, length-take stop lits)))
     ∙ ap (λ ls. pieces ls 0 ends) (take-append-drop stop lits)
+
+-- the first k clauses, with their literals alone
+pub pieces_popped : (lits : List ℤ) (ends : List ℕ) (k s : ℕ) → AreEnds 0 ends (length lits) → k ≤ length ends → s ≡ get_or (0 ∷ ends) k 0 → pieces (take s lits) 0 (take k ends) ≡ take k (pieces lits 0 ends)
+pieces_popped lits ends k s h i is =
+    ap (λ n. pieces (take n lits) 0 (take k ends)) is
+    ∙ pieces_cut lits (take k ends) (get_or (0 ∷ ends) k 0) (ends_taken 0 ends (length lits) k h i) (start_at 0 ends (length lits) k h i)
+    ∙ pieces_taken lits 0 ends k
 
 -- how many literals the clauses from k on have
 literals-pieces : (lits : List ℤ) (start : ℕ) (ends : List ℕ) (stop : ℕ) → AreEnds start ends stop → stop ≤ length lits → sum_by length (pieces lits start ends) + start ≡ stop

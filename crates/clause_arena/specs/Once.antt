@@ -1,5 +1,5 @@
 -- A clause with each of its literals once.
-use Rattle.std.specs.Prelude.{◌≡◌, false, not, List, [], ◌∷◌, filter, ℤ}
+use Rattle.std.specs.Prelude.{◌≡◌, ◌≢◌, not, List, [], ◌∷◌, filter, ℤ}
 use Rattle.std.specs.List.{AllPairs}
 use Rattle.std.specs.Ordering.{int_eq}
 use Rattle.sat_terms.specs.Cubes.{has_literal}
@@ -13,7 +13,11 @@ abbrev pub once : List ℤ → List ℤ
 once [] = []
 once (l ∷ c) = l ∷ without l (once c)
 
+-- No two places have the same literal.
+abbrev pub HasEachOnce : List ℤ → Type 0
+HasEachOnce c = AllPairs (λ l m. l ≢ m) c
+
 -- The literals stay the same, and no two places have the same one.
 pub record KeepsEachOnce (c : List ℤ) : Type 0 where
   pub same : (l : ℤ) → has_literal (once c) l ≡ has_literal c l
-  pub distinct : AllPairs (λ l m. int_eq l m ≡ false) (once c)
+  pub distinct : HasEachOnce (once c)

@@ -14,8 +14,9 @@ fn place_of(lit: i32) -> usize
     if lit < 0 { double } else { double + 1 }
 }
 
-/// Appends the literals of a clause, each once. The table tells which literals the clause had so far: those
-/// that bear its stamp. So no pass has to clear the table, where each clause has a greater stamp.
+/// Appends the literals of a clause, each once. The table tells which literals the clause had so
+/// far: those that bear its stamp. So no pass has to clear the table, where each clause has a
+/// greater stamp.
 pub(crate) fn append_once(
     lits: &mut Vec<i32>,
     stamps: &mut [u32],

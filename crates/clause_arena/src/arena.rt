@@ -1,10 +1,11 @@
 //! The arena: the clauses of a formula, and after them the lemmas.
-ghost use Rattle.std.specs.Prelude.{◌≡◌, ◌≢◌, ◌-◌, ◌<◌, ◌≤◌, ◌++◌, true, [], ◌∷◌, length, map, take, nat_abs, slice_index_or, slice_index, slice_range, IfOk, IfErr};
-ghost use Rattle.std.specs.List.{All, AllPairs};
-ghost use Rattle.sat_terms.specs.Literals.{IsLiteral};
+ghost use Rattle.std.specs.Prelude.{◌≡◌, ◌-◌, ◌<◌, ◌≤◌, ◌++◌, true, [], ◌∷◌, length, map, take};
+ghost use Rattle.std.specs.Prelude.{slice_index_or, slice_index, slice_range, IfOk, IfErr};
+ghost use Rattle.std.specs.List.{All};
+ghost use Rattle.sat_terms.specs.Literals.{IsLiteral, IsLiteralOf};
 ghost use Rattle.sat_terms.specs.Subjects.{IsFormula};
-ghost use Rattle.clause_arena.specs.Once.{once};
-ghost use Rattle.clause_arena.specs.Clauses.{has_room};
+ghost use Rattle.clause_arena.specs.Once.{once, HasEachOnce};
+ghost use Rattle.clause_arena.specs.Clauses.{IsArena, HasDistinctVariables, has_room};
 
 use crate::appending::append_once;
 use sat_terms::Formula;
@@ -17,8 +18,9 @@ const LEMMAS: usize = 1_000_000;
 /// The most literals of its lemmas together.
 const LEMMA_LITERALS: usize = 16_000_000;
 
-/// A list of clauses, of which the first `base` are those of the formula, and the others lemmas. Clauses
-/// of the formula stay; lemmas come and go at the end.
+/// A list of clauses, of which the first `base` are those of the formula, and the others lemmas.
+/// Clauses of the formula stay; lemmas come and go at the end. A literal stands in a clause once. A
+/// clause of the formula may have it beside its negation, a lemma not.
 #[derive(Debug, Drop)]
 pub struct Arena {
     lits: Vec<i32>,
@@ -58,12 +60,14 @@ fn piece(lits: &[i32], start: u32, end: u32) -> &[i32]
 }
 
 impl Arena {
-    /// The arena of a formula's clauses, without lemmas. A literal that is repeated in a clause is kept once,
-    /// at its first place. The time is that of one walk over the formula, with a table of its literals.
+    /// The arena of a formula's clauses, without lemmas. A literal that is repeated in a clause is
+    /// kept once, at its first place. The time is that of one walk over the formula, with a table
+    /// of its literals.
     pub fn make(alloc: Global, formula: &Formula) -> Result<Arena, AllocError>
         requires { IsFormula formula.now.variables formula.now.clauses }
         ensures clauses { IfOk result (λ arena. arena.clauses ≡ map once formula.now.clauses) }
         ensures base { IfOk result (λ arena. arena.base ≡ length formula.now.clauses) }
+        ensures variables { IfOk result (λ arena. All (All (IsLiteralOf formula.now.variables)) arena.clauses) }
     {
         let mut lits = Vec::new(alloc);
         let mut ends = Vec::new(alloc);
@@ -77,11 +81,11 @@ impl Arena {
         Ok(Arena { lits, ends, base })
     }
 
-    /// Appends a lemma, and answers its id, which is the old length. Without memory for it the arena stays
-    /// as it is.
+    /// Appends a lemma, and answers its id, which is the old length. Without memory for it the
+    /// arena stays as it is.
     pub fn add(&mut self, lits: &[i32]) -> Result<u32, AllocError>
         requires literals { All IsLiteral lits.now }
-        requires distinct { AllPairs (λ l m. nat_abs l ≢ nat_abs m) lits.now }
+        requires distinct { HasDistinctVariables lits.now }
         requires room { has_room self.old (length lits.now) ≡ true }
         ensures id { IfOk result (λ id. id ≡ length self.old.clauses) }
         ensures clauses { IfOk result (λ _. self.new.clauses ≡ self.old.clauses ++ lits.now ∷ []) }
@@ -98,8 +102,8 @@ impl Arena {
         }
     }
 
-    /// Whether a lemma of so many literals stays within the limits of an arena: 1,000,000 lemmas, with
-    /// 16,000,000 literals together.
+    /// Whether a lemma of so many literals stays within the limits of an arena: 1,000,000 lemmas,
+    /// with 16,000,000 literals together.
     pub fn has_room(&self, count: usize) -> bool
         ensures { result ≡ has_room self.now count }
     {
@@ -123,7 +127,10 @@ impl Arena {
     /// The literals of a clause, in the order in which it was given. Constant time.
     pub fn lits(&self, id: u32) -> &[i32]
         requires { id < length self.now.clauses }
-        ensures { result.now ≡ slice_index_or self.now.clauses id [] }
+        ensures clause { result.now ≡ slice_index_or self.now.clauses id [] }
+        ensures literals { All IsLiteral result.now }
+        ensures once { HasEachOnce result.now }
+        ensures lemma { self.now.base ≤ id → HasDistinctVariables result.now }
     {
         let start = start_of(&self.ends, id);
         piece(&self.lits, start, self.ends[id as usize])
@@ -131,7 +138,8 @@ impl Arena {
 
     /// How many clauses there are, lemmas among them.
     pub fn len(&self) -> u32
-        ensures { result ≡ length self.now.clauses }
+        ensures length { result ≡ length self.now.clauses }
+        ensures arena { IsArena self.now }
     {
         self.ends.len() as u32
     }

@@ -1,3 +1,3 @@
 pub mod Scans
 pub mod Steps
-pub mod Named
+pub mod Pairs

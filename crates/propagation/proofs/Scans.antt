@@ -1,12 +1,12 @@
 -- The steps of a scan.
-use Rattle.std.proofs.Common.{◌≡◌, ℕ, zero, suc, ◌+◌, ◌<◌, ◌≤◌, max, Bool, true, false, ◌&&◌, ◌||◌, cond, nat_eq, ℤ, pos, negsuc, neg_ℤ, nat_abs, List, [], ◌∷◌, ◌++◌, length, get_or, take, Option, Some, None, is_none, refl, sym, ap, ◌∙◌, inl, inr, arith}
+use Rattle.std.proofs.Common.{◌≡◌, ℕ, zero, suc, ◌+◌, ◌<◌, ◌≤◌, max, Bool, true, false, cond, nat_eq, ℤ, neg_ℤ, nat_abs, List, [], ◌∷◌, ◌++◌, length, get_or, take, Option, Some, None, is_none, refl, sym, ap, ◌∙◌, inl, inr, arith}
 use Rattle.std.specs.List.{list_all}
 use Rattle.std.specs.Ordering.{int_eq}
 use Rattle.std.proofs.lemmas.Bool.{and_parts, and_from, or_from, or_cases, or_left, or_right, both_ways, cases_Bool, eqb-true, eqb-false, false_from_ne_true, leb-true}
 use Rattle.std.proofs.lemmas.List.{take_more}
-use Rattle.std.proofs.lemmas.List.Folds.{list_all-append, list_any-append, list_all_at}
+use Rattle.std.proofs.lemmas.List.Folds.{list_all_more, list_any_more, list_all_at}
 use Rattle.sat_terms.specs.Cubes.{has_literal}
-use Rattle.sat_terms.proofs.CubeLemmas.{nat_abs-neg, int_eq-true, int_eq-other}
+use Rattle.sat_terms.proofs.CubeLemmas.{nat_abs-neg, int_eq-same, int_eq-true, int_eq-other, neg-not_same}
 use Rattle.search_region.proofs.Literals.{same_variable, test_from_same, all_weaker}
 use Rattle.chrono_trail.specs.declared.item.Item.{Item}
 use Rattle.chrono_trail.specs.Items.{item_of, value_in, level_in, are_distinct, upto}
@@ -19,13 +19,8 @@ abbrev pub SoFar : List Item → List ℤ → Option ℤ → Type 0
 SoFar items c None = list_all (is_false items) c ≡ true
 SoFar items c (Some l) = IsUnit items l c
 
-not_own_negation : (l : ℤ) → 0 < nat_abs l → l ≡ neg_ℤ l → ⊥
-not_own_negation (pos zero) named e = absurd (omega arith)
-not_own_negation (pos (suc n)) named e = cc
-not_own_negation (negsuc n) named e = cc
-
 -- an item is of its variable
-item_variable : (items : List Item) (v : ℕ) (i : Item) → item_of items v ≡ Some i → nat_abs i.lit ≡ v
+pub item_variable : (items : List Item) (v : ℕ) (i : Item) → item_of items v ≡ Some i → nat_abs i.lit ≡ v
 item_variable [] v i h = cc
 item_variable (j ∷ later) v i h =
     elim (cases_Bool (nat_eq v (nat_abs j.lit))) [
@@ -75,7 +70,7 @@ true_not_false (j ∷ later) l i d named h on =
           let k : j ≡ i = cc in
           let equal : j.lit ≡ l = ap (λ (x : Item). x.lit) k ∙ on in
           or_from (int_eq l (neg_ℤ j.lit)) (is_false later l)
-          (false_from_ne_true (int_eq l (neg_ℤ j.lit)) (λ b. not_own_negation l named (int_eq-true l (neg_ℤ j.lit) b ∙ ap neg_ℤ equal)))
+          (false_from_ne_true (int_eq l (neg_ℤ j.lit)) (λ b. neg-not_same l named (sym (int_eq-true l (neg_ℤ j.lit) b ∙ ap neg_ℤ equal))))
           (free_not_false later l (ap (item_of later) (eqb-true (nat_abs l) (nat_abs j.lit) same) ∙ none_is (item_of later (nat_abs j.lit)) alone))
       | inr away ↦
           let rest : item_of later (nat_abs l) ≡ Some i = rw away at h in
@@ -109,34 +104,41 @@ value_true items l d named h = go (item_of items (nat_abs l)) refl h
         let b : int_eq i.lit l ≡ true = cc in
         (true_not_false items l i d named e (int_eq-true i.lit l b), λ none. let clash : Some i ≡ None = sym e ∙ none in cc)
 
-all_push : (p : ℤ → Bool) (c : List ℤ) (m : ℤ) → list_all p c ≡ true → p m ≡ true → list_all p (c ++ m ∷ []) ≡ true
-all_push p c m h g = list_all-append p c (m ∷ []) ∙ and_from (list_all p c) (p m && true) h (and_from (p m) true g refl)
+-- one literal more of which all hold
+all_more : (p : ℤ → Bool) (c : List ℤ) (i : ℕ) (d : ℤ) → i < length c → list_all p (take i c) ≡ true → p (get_or c i d) ≡ true →
+    list_all p (take (i + 1) c) ≡ true
+all_more p c i d h before here = list_all_more p c i d h ∙ and_from (list_all p (take i c)) (p (get_or c i d)) before here
 
 -- one more false literal
-pub so_far_false : (items : List Item) (c : List ℤ) (free : Option ℤ) (i : ℕ) (d : ℤ) → i < length c → SoFar items (take i c) free → is_false items (get_or c i d) ≡ true → SoFar items (take (i + 1) c) free
-so_far_false items c None i d h before wrong = rw (take_more c i d h) (all_push (is_false items) (take i c) (get_or c i d) before wrong)
+pub so_far_false : (items : List Item) (c : List ℤ) (free : Option ℤ) (i : ℕ) (d : ℤ) → i < length c → SoFar items (take i c) free →
+    is_false items (get_or c i d) ≡ true → SoFar items (take (i + 1) c) free
+so_far_false items c None i d h before wrong = all_more (is_false items) c i d h before wrong
 so_far_false items c (Some l) i d h before wrong = record {
   free = before.free;
-  among = rw (take_more c i d h) (list_any-append (int_eq l) (take i c) (get_or c i d ∷ []) ∙ or_left (has_literal (take i c) l) (has_literal (get_or c i d ∷ []) l) before.among);
-  rest = rw (take_more c i d h) (all_push (is_or_false items l) (take i c) (get_or c i d) before.rest (or_right (int_eq (get_or c i d) l) (is_false items (get_or c i d)) wrong));
+  among = list_any_more (int_eq l) c i d h ∙ or_left (has_literal (take i c) l) (int_eq l (get_or c i d)) before.among;
+  rest = all_more (is_or_false items l) c i d h before.rest (or_right (int_eq (get_or c i d) l) (is_false items (get_or c i d)) wrong);
 }
 
 -- a first free one
-pub so_far_free : (items : List Item) (c : List ℤ) (i : ℕ) (d : ℤ) → i < length c → SoFar items (take i c) None → item_of items (nat_abs (get_or c i d)) ≡ None → IsUnit items (get_or c i d) (take (i + 1) c)
-so_far_free items c i d h before free = record {
-  free = free;
-  among = rw (take_more c i d h) (list_any-append (int_eq (get_or c i d)) (take i c) (get_or c i d ∷ []) ∙ or_right (has_literal (take i c) (get_or c i d)) (int_eq (get_or c i d) (get_or c i d) || false) (or_left (int_eq (get_or c i d) (get_or c i d)) false (test_from_same (get_or c i d) (get_or c i d) refl)));
-  rest = rw (take_more c i d h) (all_push (is_or_false items (get_or c i d)) (take i c) (get_or c i d)
-      (all_weaker (is_false items) (is_or_false items (get_or c i d)) (λ m e. or_right (int_eq m (get_or c i d)) (is_false items m) e) (take i c) before)
-      (or_left (int_eq (get_or c i d) (get_or c i d)) (is_false items (get_or c i d)) (test_from_same (get_or c i d) (get_or c i d) refl)));
-}
+pub so_far_free : (items : List Item) (c : List ℤ) (i : ℕ) (d : ℤ) → i < length c → SoFar items (take i c) None →
+    item_of items (nat_abs (get_or c i d)) ≡ None → IsUnit items (get_or c i d) (take (i + 1) c)
+so_far_free items c i d h before free =
+    let m : ℤ = get_or c i d in
+    record {
+      free = free;
+      among = list_any_more (int_eq m) c i d h ∙ or_right (has_literal (take i c) m) (int_eq m m) (int_eq-same m);
+      rest = all_more (is_or_false items m) c i d h
+          (all_weaker (is_false items) (is_or_false items m) (λ k e. or_right (int_eq k m) (is_false items k) e) (take i c) before)
+          (or_left (int_eq m m) (is_false items m) (int_eq-same m));
+    }
 
 -- the same free one again
-pub so_far_again : (items : List Item) (c : List ℤ) (l : ℤ) (i : ℕ) (d : ℤ) → i < length c → IsUnit items l (take i c) → l ≡ get_or c i d → IsUnit items l (take (i + 1) c)
+pub so_far_again : (items : List Item) (c : List ℤ) (l : ℤ) (i : ℕ) (d : ℤ) → i < length c → IsUnit items l (take i c) →
+    l ≡ get_or c i d → IsUnit items l (take (i + 1) c)
 so_far_again items c l i d h before same = record {
   free = before.free;
-  among = rw (take_more c i d h) (list_any-append (int_eq l) (take i c) (get_or c i d ∷ []) ∙ or_left (has_literal (take i c) l) (has_literal (get_or c i d ∷ []) l) before.among);
-  rest = rw (take_more c i d h) (all_push (is_or_false items l) (take i c) (get_or c i d) before.rest (or_left (int_eq (get_or c i d) l) (is_false items (get_or c i d)) (test_from_same (get_or c i d) l (sym same))));
+  among = list_any_more (int_eq l) c i d h ∙ or_left (has_literal (take i c) l) (int_eq l (get_or c i d)) before.among;
+  rest = all_more (is_or_false items l) c i d h before.rest (or_left (int_eq (get_or c i d) l) (is_false items (get_or c i d)) (test_from_same (get_or c i d) l (sym same)));
 }
 
 -- what holds of all literals holds of the one at a place

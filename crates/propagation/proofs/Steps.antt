@@ -70,12 +70,12 @@ same_from_length clauses old new p h = go p.added p.grows
         absurd (omega arith)
 
 -- what holds of each literal of a clause holds of one of them
-pub All-literal : (n : ℕ) (c : List ℤ) (l : ℤ) → All (IsLiteralOf n) c → has_literal c l ≡ true → IsLiteralOf n l
-All-literal n [] l all h = absurd (both_ways false refl h)
-All-literal n (m ∷ c) l all h =
+pub All-literal : (P : ℤ → Type 0) (c : List ℤ) (l : ℤ) → All P c → has_literal c l ≡ true → P l
+All-literal P [] l all h = absurd (both_ways false refl h)
+All-literal P (m ∷ c) l all h =
     elim (or_cases (int_eq l m) (has_literal c l) h) [
-      | inl same ↦ subst (IsLiteralOf n) (sym (int_eq-true l m same)) (All-head (IsLiteralOf n) m c all)
-      | inr rest ↦ All-literal n c l (All-tail (IsLiteralOf n) m c all) rest
+      | inl same ↦ subst P (sym (int_eq-true l m same)) (All-head P m c all)
+      | inr rest ↦ All-literal P c l (All-tail P m c all) rest
     ]
 
 -- the true level is at most the current one

@@ -7,7 +7,8 @@ use Rattle.propagation.specs.declared.propagator.Propagated.{Propagated}
 use Rattle.propagation.specs.declared.propagator.Propagated.TheVariants.{Quiet, Conflict}
 use Rattle.propagation.specs.Scans.{IsAtRest}
 
--- The item is implied by a clause that is unit under the older items, on the greatest level of its other literals.
+-- The item is implied by a clause that is unit under the older items, on the greatest level of its
+-- other literals.
 pub record IsImplied (clauses : List (List ℤ)) (older : List Item) (i : Item) : Type 0 where
   pub id : ℕ
   pub inside : id < length clauses
@@ -18,7 +19,8 @@ pub record IsImplied (clauses : List (List ℤ)) (older : List Item) (i : Item) 
 -- Each of the added items is, under those before it.
 abbrev pub AreImplied : List (List ℤ) → List Item → List Item → Type 0
 AreImplied clauses old [] = Unit {0}
-AreImplied clauses old (i ∷ added) = IsImplied clauses old i × AreImplied clauses (old ++ i ∷ []) added
+AreImplied clauses old (i ∷ added) =
+    IsImplied clauses old i × AreImplied clauses (old ++ i ∷ []) added
 
 -- Propagation went some steps.
 pub record Propagates (clauses : List (List ℤ)) (old new : List Item) : Type 0 where
@@ -28,11 +30,13 @@ pub record Propagates (clauses : List (List ℤ)) (old new : List Item) : Type 0
 
 -- The clause of this number is false.
 abbrev pub IsFalseOf : List (List ℤ) → List Item → ℕ → Type 0
-IsFalseOf clauses items id = (id < length clauses) × (is_false_clause items (slice_index_or clauses id []) ≡ true)
+IsFalseOf clauses items id =
+    (id < length clauses) × (is_false_clause items (slice_index_or clauses id []) ≡ true)
 
 -- No clause is false or unit.
 abbrev pub AreAtRest : List (List ℤ) → List Item → Type 0
-AreAtRest clauses items = (id : ℕ) → id < length clauses → IsAtRest items (slice_index_or clauses id [])
+AreAtRest clauses items = (id : ℕ) → id < length clauses →
+    IsAtRest items (slice_index_or clauses id [])
 
 -- They are where nothing was added.
 abbrev pub IsAtRestIf : List (List ℤ) → List Item → List Item → Type 0

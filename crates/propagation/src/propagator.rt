@@ -26,15 +26,16 @@ pub struct Propagator {
 }
 
 impl Propagator {
-    /// A propagator for the clauses of this arena, over the variables 1 to `variables`. It takes no memory.
+    /// A propagator for the clauses of this arena, over the variables 1 to `variables`. It takes no
+    /// memory.
     pub fn make(alloc: Global, arena: &Arena, variables: u32) -> Result<Propagator, AllocError>
         ensures { IfOk result (λ propagator. propagator.variables ≡ variables) }
     {
         Ok(Propagator { variables })
     }
 
-    /// Takes up a lemma that was just added to the arena. Each scan goes over all clauses, so there is nothing
-    /// to keep of it, and no memory is taken.
+    /// Takes up a lemma that was just added to the arena. Each scan goes over all clauses, so there
+    /// is nothing to keep of it, and no memory is taken.
     pub fn learn(&mut self, arena: &Arena, trail: &mut Trail, id: u32) -> Result<(), AllocError>
         requires { id < length arena.now.clauses }
         ensures trail { trail.new ≡ trail.old }
@@ -43,8 +44,8 @@ impl Propagator {
         Ok(())
     }
 
-    /// Appends what the clauses imply, until no clause is unit or one is false. It takes no memory. The time
-    /// is that of one walk over all clauses for each literal that it appends, at most.
+    /// Appends what the clauses imply, until no clause is unit or one is false. It takes no memory.
+    /// The time is that of one walk over all clauses for each literal that it appends, at most.
     pub fn propagate(&mut self, arena: &Arena, trail: &mut Trail) -> Propagated
         requires variables { trail.old.variables ≡ self.old.variables }
         requires clauses { All (All (IsLiteralOf self.old.variables)) arena.now.clauses }
@@ -66,7 +67,8 @@ impl Propagator {
     }
 }
 
-/// Scans each clause once, and appends the literal of each unit one. The clause that it stops at is false.
+/// Scans each clause once, and appends the literal of each unit one. The clause that it stops at is
+/// false.
 fn pass(arena: &Arena, trail: &mut Trail) -> Option<u32>
     requires trail { IsTrail trail.old.variables trail.old.items trail.old.level }
     requires clauses { All (All (IsLiteralOf trail.old.variables)) arena.now.clauses }

@@ -1,4 +1,5 @@
-//! Scans of one clause under a trail: whether it is false or unit, and the level of what it implies.
+//! Scans of one clause under a trail: whether it is false or unit, and the level of what it
+//! implies.
 ghost use Rattle.std.specs.Prelude.{◌≡◌, true};
 ghost use Rattle.std.specs.List.{All};
 ghost use Rattle.chrono_trail.specs.Items.{are_distinct};

@@ -1,5 +1,5 @@
-//! Propagation on every pair of clauses of two literals over three variables, from each decision, against
-//! the least set computed plainly.
+//! Propagation on every pair of clauses of two literals over three variables, from each decision,
+//! against the least set computed plainly.
 ghost use Rattle.std.specs.Prelude.{◌<◌, ◌≤◌, nat_abs};
 ghost use Rattle.sat_terms.specs.Literals.{IsLiteralOf};
 
@@ -76,8 +76,8 @@ fn closure(first: Pair, second: Pair, start: i32) -> Set
     set
 }
 
-/// Whether propagation answers what the least set says: a conflict exactly where it closes, and else just
-/// its literals.
+/// Whether propagation answers what the least set says: a conflict exactly where it closes, and
+/// else just its literals.
 fn agrees(alloc: Global, first: Pair, second: Pair, start: i32) -> Result<bool, AllocError>
     requires { IsLiteralOf 3 start }
 {

@@ -1,5 +1,6 @@
 //! The laws of unit propagation, each as the contract of an empty function.
-ghost use Rattle.unit_closure.specs.Laws.{HoldsTheStart, HoldsUnits, GrowsAlong, ClosesAlong, DerivesWhatFollows, ClosesWhereNoneIsLeft};
+ghost use Rattle.unit_closure.specs.Laws.{HoldsTheStart, HoldsUnits, GrowsAlong, ClosesAlong};
+ghost use Rattle.unit_closure.specs.Laws.{DerivesWhatFollows, ClosesWhereNoneIsLeft};
 
 /// The closure holds the literals that it starts from.
 pub fn holds_the_start()

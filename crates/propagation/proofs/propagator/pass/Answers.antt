@@ -16,16 +16,16 @@ pub assign-requires-clause-named : goal.assign-requires-clause-named
 assign-requires-clause-named c =
     let clauses = c.args.arena.now.clauses in
     let fits : SFits w32 c.in-Unit.lit = search rules in
-    let unit : IsUnit c.loop-id.trail.items c.in-Unit.lit (get_or clauses c.loop-id.id []) = subst (IsUnit c.loop-id.trail.items c.in-Unit.lit) c.lits-clause.ensures c.in-Unit.ensures in
-    let named = All-literal c.args.trail.now.variables (get_or clauses c.loop-id.id []) c.in-Unit.lit (c.requires.clauses c.loop-id.id [] (subst (λ n. c.loop-id.id < n) c.len-id-end.ensures c.loop-id-test.true)) unit.among in
+    let unit : IsUnit c.loop-id.trail.items c.in-Unit.lit (get_or clauses c.loop-id.id []) = subst (IsUnit c.loop-id.trail.items c.in-Unit.lit) c.lits-clause.ensures.clause c.in-Unit.ensures in
+    let named = All-literal (IsLiteralOf c.args.trail.now.variables) (get_or clauses c.loop-id.id []) c.in-Unit.lit (c.requires.clauses c.loop-id.id [] (subst (λ n. c.loop-id.id < n) c.len-id-end.ensures.length c.loop-id-test.true)) unit.among in
     subst (λ n. 0 < n) (sym (nat_abs-bits c.in-Unit.lit fits)) named.0
 
 pub assign-requires-clause-within : goal.assign-requires-clause-within
 assign-requires-clause-within c =
     let clauses = c.args.arena.now.clauses in
     let fits : SFits w32 c.in-Unit.lit = search rules in
-    let unit : IsUnit c.loop-id.trail.items c.in-Unit.lit (get_or clauses c.loop-id.id []) = subst (IsUnit c.loop-id.trail.items c.in-Unit.lit) c.lits-clause.ensures c.in-Unit.ensures in
-    let named = All-literal c.args.trail.now.variables (get_or clauses c.loop-id.id []) c.in-Unit.lit (c.requires.clauses c.loop-id.id [] (subst (λ n. c.loop-id.id < n) c.len-id-end.ensures c.loop-id-test.true)) unit.among in
+    let unit : IsUnit c.loop-id.trail.items c.in-Unit.lit (get_or clauses c.loop-id.id []) = subst (IsUnit c.loop-id.trail.items c.in-Unit.lit) c.lits-clause.ensures.clause c.in-Unit.ensures in
+    let named = All-literal (IsLiteralOf c.args.trail.now.variables) (get_or clauses c.loop-id.id []) c.in-Unit.lit (c.requires.clauses c.loop-id.id [] (subst (λ n. c.loop-id.id < n) c.len-id-end.ensures.length c.loop-id-test.true)) unit.among in
     subst (λ n. n ≤ c.loop-id.trail.variables) (sym (nat_abs-bits c.in-Unit.lit fits)) (subst (λ n. nat_abs c.in-Unit.lit ≤ n) (sym c.loop-id.invariant.variables) named.1)
 
 pub assign-requires-clause-below : goal.assign-requires-clause-below
@@ -40,15 +40,15 @@ loop-id-preserved c =
     let old = c.args.trail.now.items in
     let id : ℕ = c.loop-id.id in
     let items = c.loop-id.trail.items in
-    let inside : id < length clauses = subst (λ n. id < n) c.len-id-end.ensures c.loop-id-test.true in
+    let inside : id < length clauses = subst (λ n. id < n) c.len-id-end.ensures.length c.loop-id-test.true in
     elim c.match-scan.branch [
       | in-Unit w ↦
           let lit : ℤ = w.in-Unit.lit in
           let fits : SFits w32 lit = search rules in
-          let unit : IsUnit items lit (get_or clauses id []) = subst (IsUnit items lit) c.lits-clause.ensures w.in-Unit.ensures in
-          let named = All-literal c.args.trail.now.variables (get_or clauses id []) lit (c.requires.clauses id [] inside) unit.among in
+          let unit : IsUnit items lit (get_or clauses id []) = subst (IsUnit items lit) c.lits-clause.ensures.clause w.in-Unit.ensures in
+          let named = All-literal (IsLiteralOf c.args.trail.now.variables) (get_or clauses id []) lit (c.requires.clauses id [] inside) unit.among in
           let level : w.level_of_rest-level.result ≡ rest_level items lit (get_or clauses id []) =
-          w.level_of_rest-level.ensures ∙ ap (λ (z : ℤ). rest_level items z c.lits-clause.result.now) (to_z-of_z w32 lit fits) ∙ ap (rest_level items lit) c.lits-clause.ensures in
+          w.level_of_rest-level.ensures ∙ ap (λ (z : ℤ). rest_level items z c.lits-clause.result.now) (to_z-of_z w32 lit fits) ∙ ap (rest_level items lit) c.lits-clause.ensures.clause in
           let same : w.assign.new.self.items ≡ items ++ implied_by clauses items id lit ∷ [] =
           w.assign.ensures.items
           ∙ ap (λ (z : ℤ). items ++ record { lit = z; level = w.level_of_rest-level.result; kind = Implied id } ∷ []) (to_z-of_z w32 lit fits)
@@ -66,7 +66,7 @@ loop-id-preserved c =
             variables = variables_same ∙ c.loop-id.invariant.variables;
           }
       | in-Neither w ↦
-          let at_rest : IsAtRest items (get_or clauses id []) = subst (IsAtRest items) c.lits-clause.ensures w.in-Neither.ensures in
+          let at_rest : IsAtRest items (get_or clauses id []) = subst (IsAtRest items) c.lits-clause.ensures.clause w.in-Neither.ensures in
           rw w.trail-is (record {
             trail = c.loop-id.invariant.trail;
             steps = c.loop-id.invariant.steps;

@@ -19,7 +19,7 @@ invariant_of-self-2 c =
     let len = c.len.ensures in
     subst (λ (ls : List ℤ). IsLaidOut ls c.push.new.self.items base) (sym c.in_ok-extend_from_slice.ensures.items)
     (subst (λ (es : List ℕ). IsLaidOut (lits ++ new) es base) (sym grown)
-    (laid_grown lits new ends base c.len.result c.self.invariant room (omega arith)))
+    (laid_grown lits new ends base c.len.result c.self.invariant c.requires.literals c.requires.distinct room (omega arith)))
 
 pub returns-clause-id : goal.returns-clause-id
 returns-clause-id c =

@@ -1,7 +1,12 @@
-use Rattle.std.proofs.Common.{◌≡◌, ◌-◌, ◌<◌, ◌∷◌, List, ℕ, ℤ, sym, ap, ◌∙◌, length, take, drop, arith, [], get_or}
+use Rattle.std.proofs.Common.{◌≡◌, ◌<◌, ◌∷◌, List, ℕ, ℤ, sym, ap, subst, ◌∙◌, length, arith, [], get_or}
 use Rattle.std.proofs.lemmas.List.{get_or_default}
-use Rattle.clause_arena.specs.Clauses.{Clauses}
-use Rattle.clause_arena.proofs.Pieces.{length-pieces, end_at, piece_at}
+use Rattle.std.specs.List.{All}
+use Rattle.sat_terms.specs.Literals.{IsLiteral}
+use Rattle.clause_arena.specs.Clauses.{Clauses, IsArena, HasDistinctVariables}
+use Rattle.clause_arena.specs.Once.{HasEachOnce}
+use Rattle.clause_arena.proofs.Kept.{lemma_at}
+use Rattle.clause_arena.proofs.Laid.{clause_at}
+use Rattle.clause_arena.proofs.Pieces.{length-pieces, end_at}
 use Rattle.clause_arena.proofs.arena.Arena.lits.Goals as goal
 
 pub start_of-start-requires : goal.start_of-start-requires
@@ -42,8 +47,8 @@ piece-requires-clause-inside c =
     let list = ap (λ (xs : List ℤ). length xs) c.deref-2.ensures.value in
     omega arith
 
-pub returns : goal.returns
-returns c =
+clause_is : (c : goal.After-piece) → c.piece.result.now ≡ get_or c.args.self.now.clauses c.args.id []
+clause_is c =
     let ends = c.self.inside.ends.items in
     let lits = c.self.inside.lits.items in
     let id : ℕ = c.args.id in
@@ -53,8 +58,23 @@ returns c =
     let start : c.start_of-start.result ≡ get_or (0 ∷ ends) id 0 = c.start_of-start.ensures ∙ ap (λ (xs : List ℕ). get_or (0 ∷ xs) id 0) c.deref.ensures.value in
     let end : c.index.result.now ≡ get_or ends id 0 = c.index.ensures ∙ get_or_default ends id c.index.result.now 0 inside in
     c.piece.ensures
-    ∙ ap (λ (e : ℕ). take (e - c.start_of-start.result) (drop c.start_of-start.result c.deref-2.result.now)) end
-    ∙ ap (λ (s : ℕ). take (get_or ends id 0 - s) (drop s c.deref-2.result.now)) start
-    ∙ ap (λ (ls : List ℤ). take (get_or ends id 0 - get_or (0 ∷ ends) id 0) (drop (get_or (0 ∷ ends) id 0) ls)) c.deref-2.ensures.value
-    ∙ sym (piece_at lits 0 ends id inside)
+    ∙ clause_at lits c.deref-2.result.now ends id c.start_of-start.result c.index.result.now inside c.deref-2.ensures.value start end
     ∙ ap (λ (v : Clauses). get_or v.clauses id []) c.self.view_is
+
+pub returns-clause-clause : goal.returns-clause-clause
+returns-clause-clause c = clause_is c
+
+pub returns-clause-literals : goal.returns-clause-literals
+returns-clause-literals c =
+    let arena : IsArena c.args.self.now = subst IsArena c.self.view_is c.self.invariant.arena in
+    subst (All IsLiteral) (sym (clause_is c)) (arena.literals c.args.id [] c.requires)
+
+pub returns-clause-once : goal.returns-clause-once
+returns-clause-once c =
+    let arena : IsArena c.args.self.now = subst IsArena c.self.view_is c.self.invariant.arena in
+    subst HasEachOnce (sym (clause_is c)) (arena.once c.args.id [] c.requires)
+
+pub returns-clause-lemma : goal.returns-clause-lemma
+returns-clause-lemma c after =
+    let arena : IsArena c.args.self.now = subst IsArena c.self.view_is c.self.invariant.arena in
+    subst HasDistinctVariables (sym (clause_is c)) (lemma_at c.args.self.now c.args.id c.requires arena after)

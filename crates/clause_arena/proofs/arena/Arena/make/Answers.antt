@@ -7,6 +7,7 @@ use Rattle.sat_terms.specs.CubeOrder.{key}
 use Rattle.sat_terms.specs.Literals.{IsLiteralOf}
 use Rattle.sat_terms.specs.Subjects.{IsFormula}
 use Rattle.clause_arena.specs.Once.{once}
+use Rattle.clause_arena.proofs.Kept.{all_once_named}
 use Rattle.clause_arena.proofs.Marks.{key-lt}
 use Rattle.clause_arena.proofs.Making.{IsMade, made_none, made_more, made_short, made_count, made_laid}
 use Rattle.clause_arena.proofs.arena.Arena.make.Goals as goal
@@ -106,3 +107,8 @@ returns-clause-base c =
     c.len-base.ensures ∙ c.loop-id.ends.ok.0
     ∙ made_count c.loop-id.lits.items c.loop-id.ends.items c.as_slice-clause-items.result.now c.loop-id.id c.loop-id-test.false c.loop-id.invariant.made
     ∙ ap (λ (cs : List (List ℤ)). length cs) c.as_slice-clause-items.ensures
+
+pub returns-clause-variables : goal.returns-clause-variables
+returns-clause-variables c =
+    let clauses = c.loop-id.invariant.made.clauses ∙ ap (map once) (take_all c.loop-id.id c.as_slice-clause-items.result.now c.loop-id-test.false ∙ c.as_slice-clause-items.ensures) in
+    subst (All (All (IsLiteralOf c.args.formula.now.variables))) (sym clauses) (all_once_named c.args.formula.now.variables c.args.formula.now.clauses c.requires.named)

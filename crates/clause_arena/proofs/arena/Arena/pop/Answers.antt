@@ -1,7 +1,7 @@
-use Rattle.std.proofs.Common.{◌≡◌, ◌-◌, ◌<◌, ◌≤◌, ◌∷◌, List, ℕ, ℤ, sym, ap, ap₂, ◌∙◌, subst, length, take, get_or, arith}
+use Rattle.std.proofs.Common.{◌≡◌, ◌-◌, ◌<◌, ◌∷◌, List, ℕ, ℤ, sym, ap, ap₂, ◌∙◌, subst, length, take, get_or, arith}
 use Rattle.clause_arena.specs.Clauses.{Clauses}
 use Rattle.clause_arena.specs.Layout.{pieces, IsLaidOut}
-use Rattle.clause_arena.proofs.Pieces.{length-pieces, pieces_taken, pieces_cut, ends_taken, start_at}
+use Rattle.clause_arena.proofs.Pieces.{length-pieces, pieces_popped}
 use Rattle.clause_arena.proofs.Laid.{laid_popped}
 use Rattle.clause_arena.proofs.arena.Arena.pop.Goals as goal
 
@@ -28,11 +28,8 @@ returns-clause-clauses c =
     let len = c.len-last.ensures in
     let count = length-pieces lits 0 ends in
     let start : c.start_of-start.result ≡ get_or (0 ∷ ends) last 0 = c.start_of-start.ensures ∙ ap (λ (xs : List ℕ). get_or (0 ∷ xs) last 0) c.deref.ensures.value in
-    let inside : last ≤ length ends = omega arith in
-    let stop = start_at 0 ends (length lits) last c.self.invariant.filled inside in
     let place : last ≡ length (pieces lits 0 ends) - 1 = omega arith in
-    ap₂ (λ (ls : List ℤ) (es : List ℕ). pieces ls 0 es) (c.truncate-2.ensures.items ∙ ap (λ s. take s lits) start) c.truncate.ensures.items
-    ∙ pieces_cut lits (take last ends) (get_or (0 ∷ ends) last 0) (ends_taken 0 ends (length lits) last c.self.invariant.filled inside) stop
-    ∙ pieces_taken lits 0 ends last
+    ap₂ (λ (ls : List ℤ) (es : List ℕ). pieces ls 0 es) c.truncate-2.ensures.items c.truncate.ensures.items
+    ∙ pieces_popped lits ends last c.start_of-start.result c.self.invariant.filled (omega arith) start
     ∙ ap (λ n. take n (pieces lits 0 ends)) place
     ∙ ap (λ (v : Clauses). take (length v.clauses - 1) v.clauses) c.self.view_is
