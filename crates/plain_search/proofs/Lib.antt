@@ -1,6 +1,7 @@
 pub mod Entries
 pub mod Scans
 pub mod Shrinks
+pub mod Stamps
 pub mod Pictures
 pub mod Passes
 pub mod Work

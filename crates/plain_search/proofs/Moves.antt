@@ -1,8 +1,8 @@
 -- Each move of the code is one of the picture: it keeps the search running, with less to do, or ends it.
-use Rattle.std.proofs.Common.{◌≡◌, ℕ, suc, ◌+◌, ◌-◌, ◌<◌, ◌≤◌, ◌^◌, Bool, true, false, not, ◌&&◌, ◌||◌, nat_eq, nat_lt, nat_le, ℤ, pos, neg_ℤ, nat_abs, List, [], ◌∷◌, ◌++◌, length, get_or, Option, Some, None, is_some, refl, sym, ap, subst, subst₂, ◌∙◌, inl, inr, arith, All, length-append, Result, Ok, Err, IfOk}
+use Rattle.std.proofs.Common.{◌≡◌, ℕ, suc, ◌+◌, ◌-◌, ◌<◌, ◌≤◌, ◌^◌, Bool, true, false, ◌&&◌, ◌||◌, nat_eq, nat_lt, nat_le, ℤ, pos, neg_ℤ, nat_abs, List, [], ◌∷◌, ◌++◌, length, get_or, Option, Some, None, is_some, refl, sym, ap, subst, subst₂, ◌∙◌, inl, inr, arith, All, length-append, Result, Ok, Err, IfOk}
 use Rattle.std.specs.List.{list_any, list_all}
 use Rattle.std.specs.Ordering.{int_eq}
-use Rattle.std.proofs.lemmas.Bool.{and_parts, and_from, and_cases, or_cases, or_left, or_right, both_ways, not-true, eqb-true, eq-eqb, lt-ltb, le-leb, leb-true}
+use Rattle.std.proofs.lemmas.Bool.{and_parts, and_from, and_cases, or_cases, or_left, or_right, both_ways, eqb-true, eq-eqb, lt-ltb, le-leb, leb-true}
 use Rattle.std.proofs.lemmas.List.{map-append}
 use Rattle.std.proofs.lemmas.List.Elements.{All-push, All-head, All-tail, All-weaker}
 use Rattle.sat_terms.specs.Literals.{IsLiteralOf}
@@ -23,7 +23,7 @@ use Rattle.plain_search.specs.declared.trail.Cause.TheVariants.{Decided, Flipped
 use Rattle.plain_search.specs.declared.trail.Entry.{Entry}
 use Rattle.plain_search.specs.Entries.{TrailView, entry_of, is_decision, top_level, has_decision, TurnsOver}
 use Rattle.plain_search.specs.Pictures.{kind_of, item_of, picture, is_flat, work}
-use Rattle.plain_search.specs.Scans.{is_false, is_or_false, is_true, IsNextVariable, HasPlace, is_enough, cube_upto}
+use Rattle.plain_search.specs.Scans.{is_false, is_or_false, is_true, IsAtRest, IsNextVariable, HasPlace, is_enough, cube_upto}
 use Rattle.plain_search.specs.Searching.{is_within, IsSearching, IsDone, RunsOn, IsUnitEntry, AreUnitEntries, Propagates, HasFalseClause, TurnsOverOrEnds, Advances}
 use Rattle.plain_search.proofs.Passes.{All-literal}
 use Rattle.plain_search.proofs.Pictures.{assigned_entry, false_upto, enough_same, cube_of, flat_top, decision_there, flat_older, flat_turn_over}
@@ -256,13 +256,12 @@ module _ (n : ℕ) (f : List (List ℤ)) (p : List ℕ) (s : IsSubject n f p) wh
         | inr rest ↦ or_right (is_true entries l) (list_any (is_true entries) c) (true_clause entries set c (All-tail (IsLiteralOf n) l c named) rest)
       ]
 
-  pub model_true : (entries : List Entry) → ((v : ℕ) → 0 < v → v ≤ n → is_some (entry_of entries v) ≡ true) → (g : List (List ℤ)) → All (All (IsLiteralOf n)) g → list_all (λ c. not (list_all (is_false entries) c)) g ≡ true → list_all (list_any (is_true entries)) g ≡ true
+  pub model_true : (entries : List Entry) → ((v : ℕ) → 0 < v → v ≤ n → is_some (entry_of entries v) ≡ true) → (g : List (List ℤ)) → All (All (IsLiteralOf n)) g → All (IsAtRest entries) g → list_all (list_any (is_true entries)) g ≡ true
   model_true entries set [] named h = refl
   model_true entries set (c ∷ g) named h =
-      let (here, rest) = and_parts (not (list_all (is_false entries) c)) (list_all (λ d. not (list_all (is_false entries) d)) g) h in
       and_from (list_any (is_true entries) c) (list_all (list_any (is_true entries)) g)
-      (true_clause entries set c (All-head (All (IsLiteralOf n)) c g named) (not-true (list_all (is_false entries) c) here))
-      (model_true entries set g (All-tail (All (IsLiteralOf n)) c g named) rest)
+      (true_clause entries set c (All-head (All (IsLiteralOf n)) c g named) (All-head (IsAtRest entries) c g h).not_false)
+      (model_true entries set g (All-tail (All (IsLiteralOf n)) c g named) (All-tail (IsAtRest entries) c g h))
 
   module _ (v : TrailView) (found : List (List ℤ)) (level : ℕ) (h : IsSearching n f p v found) (least : (b : ℕ) → is_enough b v.entries p f ≡ nat_le level b) where
     tight : (b : ℕ) → (keeps_flips (is_among p) b (picture f v.entries) && list_all (is_met (is_among p) b (picture f v.entries)) f) ≡ nat_le level b

@@ -1,18 +1,17 @@
 -- The steps of a pass over the clauses.
-use Rattle.std.proofs.Common.{◌≡◌, ℕ, ◌+◌, ◌<◌, true, false, not, ◌&&◌, ℤ, List, [], ◌∷◌, length, get_or, take, refl, sym, ap, subst, ◌∙◌, inl, inr, arith, length-append}
-use Rattle.std.specs.List.{list_all, All}
+use Rattle.std.proofs.Common.{◌≡◌, ℕ, ◌+◌, ◌<◌, true, ℤ, List, [], ◌∷◌, length, get_or, take, refl, sym, ap, subst, ◌∙◌, inl, inr, arith, length-append}
+use Rattle.std.specs.List.{All}
 use Rattle.std.specs.Ordering.{int_eq}
-use Rattle.std.proofs.lemmas.Bool.{and_from, or_cases, not_from_false}
-use Rattle.std.proofs.lemmas.List.Elements.{All-head, All-tail}
+use Rattle.std.proofs.lemmas.Bool.{or_cases}
+use Rattle.std.proofs.lemmas.List.Elements.{All-push, All-head, All-tail}
 use Rattle.sat_terms.specs.Cubes.{has_literal}
 use Rattle.std.proofs.lemmas.List.{take_more}
-use Rattle.std.proofs.lemmas.List.Folds.{list_all-append}
 use Rattle.plain_search.specs.declared.trail.Cause.TheVariants.{Implied}
 use Rattle.plain_search.specs.declared.trail.Entry.{Entry}
 use Rattle.plain_search.specs.declared.search.Passed.{Passed}
 use Rattle.plain_search.specs.declared.search.Passed.TheVariants.{Conflict, Moved, Quiet}
 use Rattle.plain_search.specs.Entries.{top_level}
-use Rattle.plain_search.specs.Scans.{IsUnit, is_false}
+use Rattle.plain_search.specs.Scans.{IsUnit, IsAtRest}
 use Rattle.plain_search.specs.Searching.{IsUnitEntry, Propagates}
 use Rattle.sat_terms.proofs.CubeLemmas.{int_eq-true}
 
@@ -20,7 +19,7 @@ use Rattle.sat_terms.proofs.CubeLemmas.{int_eq-true}
 abbrev pub HasComeTo : List (List ℤ) → List Entry → List Entry → ℕ → Passed → Type 0
 HasComeTo f old new k Conflict = ⊥
 HasComeTo f old new k Moved = length old < length new
-HasComeTo f old new k Quiet = (new ≡ old) × (list_all (λ c. not (list_all (is_false new) c)) (take k f) ≡ true)
+HasComeTo f old new k Quiet = (new ≡ old) × All (IsAtRest new) (take k f)
 
 pub pass_starts : (f : List (List ℤ)) (old : List Entry) → Propagates f old old
 pass_starts f old = record { added = []; grows = refl; units = tt }
@@ -43,15 +42,11 @@ pass_longer f old entries new e before grown =
     let both = length-append before.added old in
     omega arith
 
--- one more clause that isn't false
-pub pass_neither : (f : List (List ℤ)) (old new : List Entry) (i : ℕ) (passed : Passed) → i < length f → HasComeTo f old new i passed → list_all (is_false new) (get_or f i []) ≡ false → HasComeTo f old new (i + 1) passed
+-- one more clause that is at rest
+pub pass_neither : (f : List (List ℤ)) (old new : List Entry) (i : ℕ) (passed : Passed) → i < length f → HasComeTo f old new i passed → IsAtRest new (get_or f i []) → HasComeTo f old new (i + 1) passed
 pass_neither f old new i Conflict h before e = before
 pass_neither f old new i Moved h before e = before
-pass_neither f old new i Quiet h before e = (
-  before.0,
-  rw (take_more f i [] h) (list_all-append (λ c. not (list_all (is_false new) c)) (take i f) (get_or f i [] ∷ [])
-      ∙ and_from (list_all (λ c. not (list_all (is_false new) c)) (take i f)) (not (list_all (is_false new) (get_or f i [])) && true) before.1 (and_from (not (list_all (is_false new) (get_or f i []))) true (not_from_false (list_all (is_false new) (get_or f i [])) e) refl)),
-)
+pass_neither f old new i Quiet h before e = (before.0, rw (take_more f i [] h) (All-push (IsAtRest new) (take i f) (get_or f i []) before.1 e))
 
 -- what holds of each literal of a clause holds of one of them
 pub All-literal : (P : ℤ → Type 0) (c : List ℤ) (l : ℤ) → All P c → has_literal c l ≡ true → P l

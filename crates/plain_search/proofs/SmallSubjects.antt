@@ -10,7 +10,7 @@ use Rattle.plain_search.specs.SmallSubjects.{IsShortClause, IsShortFormula}
 pub subject_from : (n : ℕ) (f : List (List ℤ)) (p : List ℕ) → n ≤ 1000000 → IsShortFormula n f → IsStrictlyIncreasing p → All (λ v. (0 < v) × (v ≤ n)) p → IsSubject n f p
 subject_from n f p few short up named =
     let small = short.few in
-    let sum = sum_by-le length 1000 f (All-weaker (IsShortClause n) (λ c. length c ≤ 1000) (λ c h. h.short) f short.short) in
+    let sum = sum_by-le length 1000000 f (All-weaker (IsShortClause n) (λ c. length c ≤ 1000000) (λ c h. h.short) f short.short) in
     record {
       formula = record {
         variables = few;

@@ -3,3 +3,4 @@ pub mod Pictures
 pub mod Scans
 pub mod Searching
 pub mod SmallSubjects
+pub mod Stamps

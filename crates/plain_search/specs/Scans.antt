@@ -1,10 +1,11 @@
 -- Literals and clauses under a trail.
-use Rattle.std.specs.Prelude.{◌≡◌, ℕ, ◌<◌, ◌≤◌, Bool, true, false, not, ◌&&◌, ◌||◌, nat_le, if◌then◌else◌, List, filter_map, ℤ, neg_ℤ, nat_abs, Option, Some, None, is_some}
+use Rattle.std.specs.Prelude.{◌≡◌, ℕ, ◌<◌, ◌≤◌, Bool, true, false, not, ◌&&◌, ◌||◌, nat_le, if◌then◌else◌, List, take, filter_map, ℤ, neg_ℤ, nat_abs, Option, Some, None, is_some}
 use Rattle.std.specs.List.{list_any, list_all}
 use Rattle.std.specs.Ordering.{int_eq}
 use Rattle.sat_terms.specs.Cubes.{is_among, has_literal}
 use Rattle.search_region.specs.Moves.{has_pair}
 use Rattle.plain_search.specs.declared.trail.Entry.{Entry}
+use Rattle.plain_search.specs.declared.scan.Reached.{Reached}
 use Rattle.plain_search.specs.declared.scan.Scanned.{Scanned}
 use Rattle.plain_search.specs.declared.scan.Scanned.TheVariants.{False, Unit, Neither}
 use Rattle.plain_search.specs.Entries.{entry_of, is_flip}
@@ -43,11 +44,16 @@ pub record IsUnit (entries : List Entry) (l : ℤ) (c : List ℤ) : Type 0 where
   pub among : has_literal c l ≡ true
   pub rest : list_all (is_or_false entries l) c ≡ true
 
+-- The clause is neither false nor unit.
+pub record IsAtRest (entries : List Entry) (c : List ℤ) : Type 0 where
+  pub not_false : list_all (is_false entries) c ≡ false
+  pub not_unit : (l : ℤ) → IsUnit entries l c → ⊥
+
 -- What a scan of a clause tells.
 abbrev pub IsScan : List Entry → List ℤ → Scanned → Type 0
 IsScan entries c False = list_all (is_false entries) c ≡ true
 IsScan entries c (Unit l) = IsUnit entries l c
-IsScan entries c Neither = list_all (is_false entries) c ≡ false
+IsScan entries c Neither = IsAtRest entries c
 
 -- The shown flipped literals are of level at most b.
 abbrev pub flips_within : ℕ → List Entry → List ℕ → Bool
@@ -87,16 +93,16 @@ HasPlace places l = (0 < nat_abs l) × (nat_abs l < places)
 abbrev pub AreSet : List Entry → List ℕ → Type 0
 AreSet entries p = list_all (λ v. is_some (entry_of entries v)) p ≡ true
 
--- A shown variable that is free.
-abbrev pub IsFreeShown : List Entry → List ℕ → ℕ → Type 0
-IsFreeShown entries p v = (is_among p v ≡ true) × (entry_of entries v ≡ None)
+-- The variables 1 to n are set.
+abbrev pub AreSetUpto : List Entry → ℕ → Type 0
+AreSetUpto entries n = (v : ℕ) → 0 < v → v ≤ n → is_some (entry_of entries v) ≡ true
 
--- A free one of the variables 1 to n, or none where each is set.
-abbrev pub IsFreeVariable : List Entry → ℕ → Option ℕ → Type 0
-IsFreeVariable entries n None = (v : ℕ) → 0 < v → v ≤ n → is_some (entry_of entries v) ≡ true
-IsFreeVariable entries n (Some v) = (0 < v) × (v ≤ n) × (entry_of entries v ≡ None)
+-- The walk for a free variable has passed set ones alone.
+pub record HasReached (entries : List Entry) (p : List ℕ) (reached : Reached) : Type 0 where
+  pub shown : AreSet entries (take reached.shown p)
+  pub variables : AreSetUpto entries reached.variable
 
 -- The variable to decide next: free, and a hidden one only where each shown one is set. None where all are set.
 abbrev pub IsNextVariable : List Entry → ℕ → List ℕ → Option ℕ → Type 0
-IsNextVariable entries n p None = (v : ℕ) → 0 < v → v ≤ n → is_some (entry_of entries v) ≡ true
+IsNextVariable entries n p None = AreSetUpto entries n
 IsNextVariable entries n p (Some v) = (0 < v) × (v ≤ n) × (entry_of entries v ≡ None) × (is_among p v ≡ false → AreSet entries p)

@@ -1,5 +1,5 @@
 -- What the code keeps while it searches, what each part of a move does, and what there is at the end.
-use Rattle.std.specs.Prelude.{◌≡◌, ℕ, ◌+◌, ◌<◌, Bool, true, not, ◌&&◌, nat_lt, nat_le, List, [], ◌∷◌, ◌++◌, length, slice_index_or, ℤ, nat_abs, MatchBool}
+use Rattle.std.specs.Prelude.{◌≡◌, ℕ, ◌+◌, ◌<◌, Bool, true, ◌&&◌, nat_lt, nat_le, List, [], ◌∷◌, ◌++◌, length, slice_index_or, ℤ, nat_abs, MatchBool}
 use Rattle.std.specs.List.{All, list_all}
 use Rattle.sat_terms.specs.Cubes.{IsCube, is_among}
 use Rattle.search_region.specs.Region.{Closed}
@@ -10,7 +10,7 @@ use Rattle.plain_search.specs.declared.search.Passed.{Passed}
 use Rattle.plain_search.specs.declared.search.Passed.TheVariants.{Conflict, Moved, Quiet}
 use Rattle.plain_search.specs.Entries.{TrailView, TurnsOver, top_level}
 use Rattle.plain_search.specs.Pictures.{picture, is_flat, work}
-use Rattle.plain_search.specs.Scans.{IsUnit, is_false}
+use Rattle.plain_search.specs.Scans.{IsUnit, IsAtRest, is_false}
 
 -- The entry is of one of the variables 1 to n.
 abbrev pub is_within : ℕ → Entry → Bool
@@ -63,11 +63,11 @@ pub record HasFalseClause (f : List (List ℤ)) (entries : List Entry) : Type 0 
   pub inside : place < length f
   pub wrong : list_all (is_false entries) (slice_index_or f place []) ≡ true
 
--- What a pass over the clauses came to: a false clause; some steps; or none, with no clause false.
+-- What a pass over the clauses came to: a false clause; some steps; or none, with no clause false or unit.
 abbrev pub CameTo : List (List ℤ) → List Entry → List Entry → Passed → Type 0
 CameTo f old new Conflict = HasFalseClause f new
 CameTo f old new Moved = length old < length new
-CameTo f old new Quiet = (new ≡ old) × (list_all (λ c. not (list_all (is_false new) c)) f ≡ true)
+CameTo f old new Quiet = (new ≡ old) × All (IsAtRest new) f
 
 -- The decision of the level was turned over; at level 0 nothing was.
 abbrev pub TurnsOverOrEnds : List Entry → ℕ → List Entry → Bool → Type 0

@@ -8,11 +8,11 @@ ghost use Rattle.plain_search.specs.SmallSubjects.{IsShortClause, IsShortFormula
 
 use sat_terms::{Clause, Subject};
 
-/// Whether a clause has at most 1,000 literals, each of one of the variables 1 to `variables`.
+/// Whether a clause has at most 1,000,000 literals, each of one of the variables 1 to `variables`.
 fn is_short_clause(clause: &[i32], variables: u32) -> bool
     ensures { result ≡ true → IsShortClause variables clause.now }
 {
-    if clause.len() > 1000 {
+    if clause.len() > 1_000_000 {
         return false;
     }
     for lit in clause {

@@ -13,6 +13,7 @@
 
 #[cfg(test)]
 mod checked;
+mod pairs;
 #[cfg(test)]
 mod projection_tests;
 mod scan;

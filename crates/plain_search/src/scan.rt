@@ -1,7 +1,8 @@
 //! Scans of clauses under a trail: which clause is false, which is unit; and which variable is free.
-ghost use Rattle.std.specs.Prelude.{◌≡◌, ℕ, ◌<◌, ◌≤◌, MatchOption};
+ghost use Rattle.std.specs.Prelude.{◌≡◌, ◌+◌, ◌<◌, ◌≤◌, None, length, take, slice_index_or};
 ghost use Rattle.std.specs.List.{All};
-ghost use Rattle.plain_search.specs.Scans.{HasPlace, IsValue, IsScan, AreSet, IsFreeShown, IsFreeVariable, IsNextVariable};
+ghost use Rattle.plain_search.specs.Entries.{entry_of};
+ghost use Rattle.plain_search.specs.Scans.{HasPlace, IsValue, IsScan, AreSet, AreSetUpto, HasReached, IsNextVariable};
 
 use crate::trail::Trail;
 
@@ -53,40 +54,82 @@ pub(crate) fn scan(trail: &Trail, clause: &[i32]) -> Scanned
     }
 }
 
-/// The lowest free variable: of the shown ones first, and then of all. None where each is set.
-pub(crate) fn lowest_free(trail: &Trail, shown: &[u32], variables: u32) -> Option<u32>
+/// How far the walk for the lowest free variable has come. It starts again where a decision is turned over.
+#[derive(Clone, Copy, Debug)]
+pub(crate) struct Reached {
+    /// So many of the shown variables, the first ones, are set.
+    pub(crate) shown: usize,
+    /// The variables 1 to this one are set.
+    pub(crate) variable: u32,
+}
+
+impl Reached {
+    /// Before the first variable.
+    pub(crate) fn none() -> Reached
+        ensures shown { result.shown ≡ 0 }
+        ensures variable { result.variable ≡ 0 }
+    {
+        Reached {
+            shown: 0,
+            variable: 0,
+        }
+    }
+}
+
+/// The lowest free variable: of the shown ones first, and then of all. None where each is set. The walk goes
+/// on from where it came to before.
+pub(crate) fn lowest_free(
+    trail: &Trail,
+    shown: &[u32],
+    variables: u32,
+    reached: &mut Reached,
+) -> Option<u32>
     requires shown { All (λ v. (0 < v) × (v ≤ variables)) shown.now }
     requires places { variables < trail.now.places }
-    ensures { IsNextVariable trail.now.entries variables shown.now result }
+    requires before { HasReached trail.now.entries shown.now reached.old }
+    ensures next { IsNextVariable trail.now.entries variables shown.now result }
+    ensures after { HasReached trail.now.entries shown.now reached.new }
 {
-    match lowest_free_shown(trail, shown) {
-        Some(variable) => Some(variable),
-        None => lowest_free_of_all(trail, variables),
+    reached.shown = first_free_shown(trail, shown, reached.shown);
+    if reached.shown < shown.len() {
+        return Some(shown[reached.shown]);
+    }
+    reached.variable = last_set(trail, variables, reached.variable);
+    if reached.variable < variables {
+        Some(reached.variable + 1)
+    } else {
+        None
     }
 }
 
-/// The first free one of the shown variables.
-fn lowest_free_shown(trail: &Trail, shown: &[u32]) -> Option<u32>
-    requires { All (λ v. v < trail.now.places) shown.now }
-    ensures { MatchOption result (AreSet trail.now.entries shown.now) (IsFreeShown trail.now.entries shown.now) }
+/// The place of the first shown variable that is free, and their number where each is set. Those before the
+/// place `from` are set.
+fn first_free_shown(trail: &Trail, shown: &[u32], from: usize) -> usize
+    requires variables { All (λ v. v < trail.now.places) shown.now }
+    requires before { AreSet trail.now.entries (take from shown.now) }
+    ensures set { AreSet trail.now.entries (take result shown.now) }
+    ensures free { result < length shown.now → entry_of trail.now.entries (slice_index_or shown.now result 0) ≡ None }
 {
-    for variable in shown {
-        if trail.get(*variable).is_none() {
-            return Some(*variable);
+    for place in from..shown.len() {
+        if trail.get(shown[place]).is_none() {
+            return place;
         }
     }
-    None
+    shown.len()
 }
 
-/// The lowest free one of the variables 1 to `variables`.
-fn lowest_free_of_all(trail: &Trail, variables: u32) -> Option<u32>
-    requires { variables < trail.now.places }
-    ensures { IsFreeVariable trail.now.entries variables result }
+/// The last variable before the first free one of 1 to `variables`, and `variables` where each is set. Those
+/// up to `from` are set.
+fn last_set(trail: &Trail, variables: u32, from: u32) -> u32
+    requires places { variables < trail.now.places }
+    requires before { AreSetUpto trail.now.entries from }
+    ensures set { AreSetUpto trail.now.entries result }
+    ensures free { result < variables → entry_of trail.now.entries (result + 1) ≡ None }
 {
-    for below in 0..variables {
+    for below in from..variables {
         if trail.get(below + 1).is_none() {
-            return Some(below + 1);
+            return below;
         }
     }
-    None
+    variables
 }

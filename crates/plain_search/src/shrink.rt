@@ -1,6 +1,6 @@
 //! Shrinking a model: the least level whose shown literals, with all hidden ones, meet each clause, and the
 //! cube of these literals.
-ghost use Rattle.std.specs.Prelude.{◌≡◌, ℕ, ◌<◌, ◌≤◌, ◌^◌, ◌||◌, true, nat_le, nat_abs, IfOk};
+ghost use Rattle.std.specs.Prelude.{◌≡◌, ℕ, ◌<◌, ◌||◌, true, nat_le, map, IfOk};
 ghost use Rattle.std.specs.List.{All, list_all, list_any};
 ghost use Rattle.sat_terms.specs.Cubes.{is_among};
 ghost use Rattle.sat_terms.specs.Subjects.{IsVariableList};
@@ -34,19 +34,6 @@ fn flips_level(trail: &Trail, shown: &[u32]) -> u32
         }
     }
     level
-}
-
-/// Whether the clause holds a literal and its negation, so that each assignment meets it.
-fn has_pair(clause: &[i32]) -> bool
-    requires { All (λ l. nat_abs l < 2 ^ 31) clause.now }
-    ensures { result ≡ has_pair clause.now }
-{
-    for lit in clause {
-        if clause.contains(&-*lit) {
-            return true;
-        }
-    }
-    false
 }
 
 /// The least level of a true literal of the clause, where a hidden one counts as 0; None where none is true.
@@ -84,32 +71,32 @@ fn lower(least: Option<u32>, level: u32) -> Option<u32>
 
 /// The least level that the clause needs: at it, a literal of it is true, where the hidden ones count
 /// always, or it holds a pair.
-fn clause_level(trail: &Trail, shown: &[u32], clause: &[i32]) -> u32
+fn clause_level(trail: &Trail, shown: &[u32], clause: &[i32], holds_pair: bool) -> u32
     requires variables { IsVariableList shown.now }
     requires places { All (HasPlace trail.now.places) clause.now }
-    requires small { trail.now.places ≤ 2 ^ 31 }
     requires holds { list_any (is_true trail.now.entries) clause.now ≡ true }
+    requires pair { holds_pair ≡ has_pair clause.now }
     ensures { (b : ℕ) → meets_upto b trail.now.entries shown.now clause.now ≡ nat_le result b }
 {
-    if has_pair(clause) {
+    if holds_pair {
         return 0;
     }
     literals_level(trail, shown, clause).unwrap()
 }
 
 /// The least level of a model: no shown flipped literal is above it, and each clause has a true literal
-/// among the hidden ones and the shown ones up to it, or holds a pair.
-pub(crate) fn least_level(trail: &Trail, shown: &[u32], clauses: &[Clause]) -> u32
+/// among the hidden ones and the shown ones up to it, or holds a pair, as `pairs` tells of each clause.
+pub(crate) fn least_level(trail: &Trail, shown: &[u32], clauses: &[Clause], pairs: &[bool]) -> u32
     requires variables { IsVariableList shown.now }
     requires shown_places { All (λ v. v < trail.now.places) shown.now }
     requires clause_places { All (All (HasPlace trail.now.places)) clauses.now }
-    requires small { trail.now.places ≤ 2 ^ 31 }
     requires holds { list_all (list_any (is_true trail.now.entries)) clauses.now ≡ true }
+    requires pairs { pairs.now ≡ map has_pair clauses.now }
     ensures { (b : ℕ) → is_enough b trail.now.entries shown.now clauses.now ≡ nat_le result b }
 {
     let mut level = flips_level(trail, shown);
-    for clause in clauses {
-        level = level.max(clause_level(trail, shown, clause.lits()));
+    for (place, clause) in clauses.iter().enumerate() {
+        level = level.max(clause_level(trail, shown, clause.lits(), pairs[place]));
     }
     level
 }

@@ -13,7 +13,7 @@ pub(crate) fn clause(alloc: Global, lits: &[i32]) -> Result<Clause, AllocError> 
     let mut kept = Vec::new(alloc);
     for lit in lits {
         let variable = lit.unsigned_abs();
-        if 0 < variable && variable < 1000 {
+        if 0 < variable && variable <= 1_000_000 {
             kept.push(*lit)?;
         }
     }
@@ -96,10 +96,44 @@ fn a_pair_is_met_by_all(rt: HostRuntime) -> Result<(), Fail> {
 }
 
 #[test]
+fn a_pair_in_a_clause_of_a_million_literals_is_met_by_all(rt: HostRuntime) -> Result<(), Fail> {
+    let mut lits = Vec::new(rt.alloc());
+    for place in 0..999_998i32 {
+        lits.push(place % 999 + 1)?;
+    }
+    lits.push(1000)?;
+    lits.push(-1000)?;
+    let subject = subject(rt.alloc(), 1000, &[&[1], &lits], &[1, 2])?;
+    let cubes = listed(&rt, rt.alloc(), &subject)?;
+    assert!(rt; lists(&cubes, &[&[1]]));
+    Ok(())
+}
+
+#[test]
 fn hidden_values_need_not_be_the_same(rt: HostRuntime) -> Result<(), Fail> {
     let subject = subject(rt.alloc(), 2, &[&[1, 2], &[-1, -2]], &[1])?;
     let cubes = listed(&rt, rt.alloc(), &subject)?;
     assert!(rt; lists(&cubes, &[&[-1], &[1]]));
+    Ok(())
+}
+
+#[test]
+fn each_leaf_walks_a_million_hidden_variables_once(rt: HostRuntime) -> Result<(), Fail> {
+    let subject = subject(rt.alloc(), 1_000_000, &[&[1, 2], &[-1, -2]], &[1])?;
+    let cubes = listed(&rt, rt.alloc(), &subject)?;
+    assert!(rt; lists(&cubes, &[&[-1], &[1]]));
+    Ok(())
+}
+
+#[test]
+fn each_leaf_walks_a_million_shown_variables_once(rt: HostRuntime) -> Result<(), Fail> {
+    let mut shown = Vec::new(rt.alloc());
+    for variable in 1..1_000_001u32 {
+        shown.push(variable)?;
+    }
+    let subject = subject(rt.alloc(), 1_000_000, &[&[1, 2]], &shown)?;
+    let cubes = listed(&rt, rt.alloc(), &subject)?;
+    assert!(rt; lists(&cubes, &[&[-1, 2], &[1]]));
     Ok(())
 }
 

@@ -1,6 +1,5 @@
-use Rattle.std.proofs.Common.{◌≡◌, ◌+◌, ◌<◌, ℕ, ℤ, [], ◌∷◌, get_or, sym, ap, subst, ◌∙◌, rules, false}
+use Rattle.std.proofs.Common.{◌≡◌, ◌+◌, ◌<◌, ℕ, ℤ, [], ◌∷◌, get_or, sym, ap, subst, ◌∙◌, rules}
 use Rattle.std.specs.Prelude.{nat_abs}
-use Rattle.std.specs.List.{list_all}
 use mir.Syntax.{w32}
 use mir.Val.{SFits}
 use Rattle.std.proofs.lemmas.Int.{to_z-of_z}
@@ -9,7 +8,7 @@ use Rattle.sat_terms.proofs.Machine.{nat_abs-bits}
 use Rattle.plain_search.specs.declared.trail.Entry.{Entry}
 use Rattle.plain_search.specs.declared.trail.Cause.TheVariants.{Implied}
 use Rattle.plain_search.specs.Entries.{top_level, TrailView}
-use Rattle.plain_search.specs.Scans.{HasPlace, IsUnit, is_false}
+use Rattle.plain_search.specs.Scans.{HasPlace, IsUnit, IsAtRest}
 use Rattle.plain_search.specs.Searching.{Propagates}
 use Rattle.plain_search.proofs.Passes.{HasComeTo, pass_implies, pass_longer, pass_neither, All-literal}
 use Rattle.plain_search.proofs.search.pass.Goals as goal
@@ -43,7 +42,7 @@ loop-place-preserved c =
             wide = ap (λ (t : TrailView). t.places) w.trail-is ∙ w.in_ok-imply-in-Unit.ensures.places ∙ c.loop-place.invariant.wide;
           }
       | in-Neither w ↦
-          let before = pass_neither f old c.loop-place.trail.entries i c.loop-place.passed c.loop-place-test.true c.loop-place.invariant.outcome (subst (λ x. list_all (is_false c.loop-place.trail.entries) x ≡ false) clause w.in-Neither.ensures) in
+          let before = pass_neither f old c.loop-place.trail.entries i c.loop-place.passed c.loop-place-test.true c.loop-place.invariant.outcome (subst (IsAtRest c.loop-place.trail.entries) clause w.in-Neither.ensures) in
           record {
             steps = subst (λ (t : TrailView). Propagates f old t.entries) (sym w.trail-is) c.loop-place.invariant.steps;
             outcome = subst (λ (t : TrailView). HasComeTo f old t.entries (i + 1) c.match-scan.passed) (sym w.trail-is) (subst (HasComeTo f old c.loop-place.trail.entries (i + 1)) (sym w.passed-is) before);
