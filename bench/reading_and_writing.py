@@ -17,7 +17,7 @@ else is said, so that other work on the machine falls on all rows alike. The row
              that unit clauses fix.
 
 A listing is written when the search is over. Its row `to /dev/full` ends at the first write, so
-it is the time of the search alone; what the row `to /dev/null` takes beyond it is the writing.
+it is the time of the search alone; what the other rows take beyond it is the writing.
 Status, notes and listing are compared with what they have to be, in each run. Printed are
 megabytes (10^6 bytes), the best and the median time in seconds, megabytes per second at the best
 time, the best time on the processor, the greatest memory, and the slowest time over the best; and
@@ -166,25 +166,32 @@ def best(runs):
     return min(one.seconds for one in runs)
 
 
+def processor(runs):
+    return min(one.processor for one in runs)
+
+
 def print_table(rows, runs):
     heads = ("row", "MB", "best", "median", "MB/s", "processor", "memory", "spread")
     print("%-34s %7s %7s %7s %7s %9s %8s %7s" % heads)
     for row in rows:
         found = runs[row.name]
         middle = statistics.median(one.seconds for one in found)
-        processor = min(one.processor for one in found)
         memory = max(one.memory for one in found)
         spread = max(one.seconds for one in found) / best(found)
         speed = "%7.0f" % (row.megabytes / best(found)) if row.megabytes else "      -"
-        numbers = (row.name, row.megabytes, best(found), middle, speed, processor, memory, spread)
-        print("%-34s %7.1f %7.3f %7.3f %s %9.3f %8.1f %7.2f" % numbers)
-    for name in ("short", "long"):
-        what = "writing %s: allsat to " % name
-        if what + "/dev/full" in runs:
-            size = next(row.megabytes for row in rows if row.name == what + "/dev/null")
-            seconds = best(runs[what + "/dev/null"]) - best(runs[what + "/dev/full"])
-            speed = size / max(seconds, 0.001)
-            print("writing %s alone: %.3f s, %.0f MB/s" % (name, seconds, speed))
+        numbers = (middle, speed, processor(found), memory, spread)
+        print("%-34s %7.1f %7.3f" % (row.name, row.megabytes, best(found)), end=" ")
+        print("%7.3f %s %9.3f %8.1f %7.2f" % numbers)
+
+
+def print_writing(rows, runs):
+    """What each listing took beyond its search, on the processor."""
+    for row in rows:
+        search = row.name.partition(" to ")[0] + " to /dev/full"
+        if row.words == WORDS and row.megabytes and search in runs:
+            seconds = processor(runs[row.name]) - processor(runs[search])
+            speed = row.megabytes / max(seconds, 0.001)
+            print("%s without the search: %.3f s, %.0f MB/s" % (row.name, seconds, speed))
 
 
 def main():
@@ -204,6 +211,7 @@ def main():
             for row in rows:
                 runs[row.name].append(run(row, folder))
         print_table(rows, runs)
+        print_writing(rows, runs)
         print("load on %d processors: %.1f, then %.1f" % (os.cpu_count(), load, os.getloadavg()[0]))
     finally:
         shutil.rmtree(folder)

@@ -1,6 +1,6 @@
 #!/usr/bin/env python3
 """The checker's own reader of DIMACS CNF with projection lines, written from docs/FORMATS.md
-("The whole grammar").
+("The input").
 
     tools/dimacs.py < TEXT
 

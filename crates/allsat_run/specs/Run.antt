@@ -5,7 +5,7 @@ use Rattle.fault_io.specs.Faults.{Rose}
 use Rattle.sat_terms.specs.RightList.{IsRightList}
 use Rattle.cube_text.specs.Listing.{listing}
 use Rattle.dimacs_front.specs.Whole.{reads}
-use Rattle.dimacs_front.specs.Answers.{IsInput, IsRefused, IsFaultIn, TellsText}
+use Rattle.dimacs_front.specs.Answers.{IsInput, IsRefused, IsFaultIn, IsAskedFor, TellsText}
 use Rattle.dimacs_front.specs.declared.input.Input.{Input}
 use Rattle.dimacs_front.specs.declared.refused.TextRefused.{TextRefused}
 use Rattle.dimacs_front.specs.declared.refused.ReadRefused.TheVariants.{Text}
@@ -60,10 +60,11 @@ Says in_before in_now taken before now OutOfMemory = Keeps before.bytes now.byte
 Says in_before in_now taken before now (ReadFault line) = IsFaultIn in_before.faults in_now.faults taken line × Keeps before.bytes now.bytes
 Says in_before in_now taken before now WriteFault = IsCutOff in_now.bytes taken before now
 
--- some bytes were taken, and the status is right for them
+-- some bytes were taken, none of them in vain, and the status is right for them
 pub record IsAnswer (in_before in_now before now : Side) (status : Status) : Type 0 where
   pub taken : List ℕ
   pub consumed : Consumes in_before.bytes in_now.bytes taken
+  pub asked : IsAskedFor taken
   pub says : Says in_before in_now taken before now status
 
 -- how a run ends on a text that says this, where no stream fails and there is memory

@@ -15,6 +15,7 @@ use std::thread::Threads;
 
 /// Does all that the program does: reads the words, then the input, enumerates, and writes the listing
 /// to `out` and the line of the status to `notes`. `words` are the words after the program's name.
+#[tactic(auto, using(dimacs_front::proofs::Taking::nothing_asked))]
 pub fn run<R: Threads + Wait + Sync, S: Source, K: Sink, N: Sink>(
     _rt: &R,
     alloc: Global,

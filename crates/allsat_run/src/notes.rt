@@ -1,5 +1,4 @@
 //! The line that a run puts on its notes.
-ghost use Rattle.std.specs.Prelude.{◌≡◌, ◌++◌};
 ghost use Rattle.allsat_run.specs.Run.{Notes};
 ghost use Rattle.std.specs.Fmt.{decimal};
 ghost use Rattle.allsat_run.specs.Status.{note_of, refusal_text, counts_of, number_line};

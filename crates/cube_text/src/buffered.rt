@@ -1,5 +1,5 @@
 //! A writer that keeps bytes back until a buffer is full, so that a sink is called seldom.
-ghost use Rattle.std.specs.Prelude.{◌≡◌, true, false, [], ◌++◌};
+ghost use Rattle.std.specs.Prelude.{◌≡◌, false, [], ◌++◌};
 ghost use Rattle.std.specs.Bool.{OnTrue, OnFalse};
 ghost use Rattle.cube_text.specs.Buffered.{HandsIn, HandsOn};
 

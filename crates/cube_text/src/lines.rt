@@ -1,5 +1,5 @@
 //! Lines of numbers.
-ghost use Rattle.std.specs.Prelude.{◌++◌, ℤ};
+ghost use Rattle.std.specs.Prelude.{◌++◌};
 ghost use Rattle.cube_text.specs.Buffered.{HandsIn};
 ghost use Rattle.cube_text.specs.Lines.{ended, number_word, zero_ended};
 

@@ -12,10 +12,10 @@ use Rattle.dimacs_front.specs.declared.refused.TextRefused.{TextRefused}
 use Rattle.dimacs_front.specs.declared.refused.ReadRefused.{ReadRefused}
 use Rattle.dimacs_front.specs.declared.refused.ReadRefused.TheVariants.{Text, ReadFault, OutOfMemory}
 use Rattle.dimacs_front.specs.declared.input.Input.{Input}
-use Rattle.dimacs_front.specs.Limits.{most_bytes}
+use Rattle.dimacs_front.specs.Limits.{most_bytes, piece_size}
 use Rattle.dimacs_front.specs.Whole.{TextView, text_at_start, eat_token, close_line, answer, long_by, long_answer, reads, stops}
 use Rattle.dimacs_front.specs.Pieces.{Gives, behind, IsStopped, IsBeyond, FeedsOn}
-use Rattle.dimacs_front.specs.Answers.{IsTooMuch, IsRefused, SaysOf, ReadsText, TellsText}
+use Rattle.dimacs_front.specs.Answers.{IsTooMuch, IsRefused, SaysOf, IsAskedFor, ReadsText, TellsText}
 use Rattle.dimacs_front.proofs.Stopping.{text_behind, lines_behind, stops_behind, stops_stay, reads-short, reads-longer, reads-beyond, reads-stopped}
 
 -- the reader stands behind the bytes taken, and no complete line of them is refused
@@ -45,6 +45,33 @@ behind_more : (bs piece : List ℕ) (r : Reading TextView) → r ≡ text_behind
 behind_more bs piece r e =
     ap (λ x. behind x piece) e ∙ sym (reading_append eat_token close_line text_at_start bs piece)
 
+-- a piece was asked for
+piece_asked : (old now : Option (List ℕ)) (r : Reading TextView) (n : ℕ) (piece : List ℕ)
+    (t : TookText old now r n) → n ≤ most_bytes → length piece ≤ piece_size →
+    IsAskedFor (TookText.bytes t ++ piece)
+piece_asked old now r n piece t within small = record {
+  front = t.bytes;
+  piece = piece;
+  parts = refl;
+  small = small;
+  within = omega (arith, t.counted);
+  going = t.going;
+}
+
+no_piece_asked : (old now : Option (List ℕ)) (r : Reading TextView) (n : ℕ)
+    (t : TookText old now r n) → n ≤ most_bytes → IsAskedFor (TookText.bytes t ++ [])
+no_piece_asked old now r n t within = piece_asked old now r n [] t within (omega arith)
+
+-- before the first byte
+pub nothing_asked : IsAskedFor []
+unfolding text_begun
+nothing_asked = no_piece_asked None None (text_behind []) 0 (text_begun None (text_behind []) behind_nothing) (omega arith)
+
+pub nothing_taken : (a : Option (List ℕ)) (before after : ℕ) (result : Result Input ReadRefused) →
+    SaysOf a before after [] result → ReadsText a a before after result
+nothing_taken a before after result says =
+    record { bytes = []; consumed = Consumes-nil a; asked = nothing_asked; says = says }
+
 pub text_more : (old now new : Option (List ℕ)) (r s : Reading TextView) (n k : ℕ)
     (piece : List ℕ) → TookText old now r n → Consumes now new piece → s ≡ behind r piece →
     k ≡ n + length piece → s.state.stopped ≡ None → TookText old new s k
@@ -60,11 +87,12 @@ text_more old now new r s n k piece t c e f going =
 
 -- the source failed
 pub text_fault : (old now new : Option (List ℕ)) (before after : ℕ) (r : Reading TextView)
-    (n line : ℕ) → TookText old now r n → Keeps now new → Rose before after → line ≡ r.state.lines →
+    (n line : ℕ) → TookText old now r n → n ≤ most_bytes → Keeps now new → Rose before after → line ≡ r.state.lines →
     ReadsText old new before after (Err (ReadFault (line + 1)))
-text_fault old now new before after r n line t k rose e = record {
+text_fault old now new before after r n line t within k rose e = record {
   bytes = t.bytes;
   consumed = Consumes-Keeps old now new t.bytes t.consumed k;
+  asked = subst IsAskedFor (append-nil t.bytes) (no_piece_asked old now r n t within);
   says = record {
     rose = rose;
     going = t.going;
@@ -98,6 +126,7 @@ text_end old now new before after r n m buf result t within e room h j =
     record {
       bytes = t.bytes ++ [];
       consumed = Consumes-more old now new t.bytes [] t.consumed none;
+      asked = no_piece_asked old now r n t within;
       says = gives_says new before after (t.bytes ++ []) r result (t.read ∙ ap text_behind (sym (append-nil t.bytes))) (omega (arith, t.counted, ap length (append-nil t.bytes))) (h.1 e room) j;
     }
 
@@ -149,17 +178,19 @@ beyond_says new bs piece n r x e counted within s =
 
 pub text_refused : (old now new : Option (List ℕ)) (before after : ℕ) (r s : Reading TextView)
     (n : ℕ) (piece : List ℕ) (failed : ReadRefused) → TookText old now r n → n ≤ most_bytes →
-    Consumes now new piece → FeedsOn r n piece s (Err failed) →
+    length piece ≤ piece_size → Consumes now new piece → FeedsOn r n piece s (Err failed) →
     ReadsText old new before after (Err failed)
-text_refused old now new before after r s n piece (Text x) t within c h = record {
+text_refused old now new before after r s n piece (Text x) t within small c h = record {
   bytes = t.bytes ++ piece;
   consumed = Consumes-more old now new t.bytes piece t.consumed c;
+  asked = piece_asked old now r n piece t within small;
   says = ⊎_elim (stopped_says new t.bytes piece n r x t.read t.counted) (beyond_says new t.bytes piece n r x t.read t.counted within) h;
 }
-text_refused old now new before after r s n piece (ReadFault line) t within c h = absurd h
-text_refused old now new before after r s n piece (OutOfMemory error) t within c h = record {
+text_refused old now new before after r s n piece (ReadFault line) t within small c h = absurd h
+text_refused old now new before after r s n piece (OutOfMemory error) t within small c h = record {
   bytes = t.bytes ++ piece;
   consumed = Consumes-more old now new t.bytes piece t.consumed c;
+  asked = piece_asked old now r n piece t within small;
   says = tt;
 }
 

@@ -1,5 +1,5 @@
 -- What the reading of a text from a source answers.
-use Rattle.std.specs.Prelude.{◌≡◌, ℕ, ◌+◌, ◌<◌, ◌≤◌, ◌⊎◌, List, length, Option, Some, None, Result, Ok, Err}
+use Rattle.std.specs.Prelude.{◌≡◌, ℕ, ◌+◌, ◌<◌, ◌≤◌, ◌⊎◌, List, ◌++◌, length, Option, Some, None, Result, Ok, Err}
 use Rattle.dimacs_tokens.specs.Cuts.{complete}
 use Rattle.sat_terms.specs.Subjects.{IsSubject}
 use Rattle.fault_io.specs.Bytes.{Consumes, IsAtEnd}
@@ -9,7 +9,7 @@ use Rattle.dimacs_front.specs.declared.refused.TextRefused.TheVariants.{TextTooL
 use Rattle.dimacs_front.specs.declared.refused.ReadRefused.{ReadRefused}
 use Rattle.dimacs_front.specs.declared.refused.ReadRefused.TheVariants.{Text, ReadFault, OutOfMemory}
 use Rattle.dimacs_front.specs.declared.input.Input.{Input}
-use Rattle.dimacs_front.specs.Limits.{most_bytes, most_shown}
+use Rattle.dimacs_front.specs.Limits.{most_bytes, piece_size, most_shown}
 use Rattle.dimacs_front.specs.Whole.{reads, stops}
 
 -- all bytes were taken, and they say this input
@@ -42,10 +42,21 @@ SaysOf left before now bs (Err (Text r)) = IsRefused left bs r
 SaysOf left before now bs (Err (ReadFault line)) = IsFaultIn before now bs line
 SaysOf left before now bs (Err (OutOfMemory e)) = Unit {0}
 
--- some bytes were taken, and the answer is right for them
+-- no byte was taken in vain: all of them but a last piece are within the limit, and no complete line among
+-- these is refused
+pub record IsAskedFor (bs : List ℕ) : Type 0 where
+  pub front : List ℕ
+  pub piece : List ℕ
+  pub parts : front ++ piece ≡ bs
+  pub small : length piece ≤ piece_size
+  pub within : length front ≤ most_bytes
+  pub going : stops front ≡ None
+
+-- some bytes were taken, none of them in vain, and the answer is right for them
 pub record ReadsText (old new : Option (List ℕ)) (before now : ℕ) (result : Result Input ReadRefused) : Type 0 where
   pub bytes : List ℕ
   pub consumed : Consumes old new bytes
+  pub asked : IsAskedFor bytes
   pub says : SaysOf new before now bytes result
 
 -- the answer is right for all the bytes that the source had, where it tells them

@@ -4,6 +4,10 @@ use Rattle.std.specs.Prelude.{ℕ}
 abbrev pub most_bytes : ℕ
 most_bytes = 1073741824
 
+-- the most bytes that are taken from a source at once
+abbrev pub piece_size : ℕ
+piece_size = 65536
+
 abbrev pub most_variables : ℕ
 most_variables = 1000000
 

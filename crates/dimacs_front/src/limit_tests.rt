@@ -373,7 +373,7 @@ fn a_number_of_a_million_digits_is_judged_by_its_value(rt: HostRuntime) {
     }
 }
 
-// The refused line has 1,000,002 bytes, and behind it are more than could be read.
+// The first text's refused line has 1,000,002 bytes; behind the second's stand more bytes than can be read.
 #[test]
 fn no_byte_is_taken_behind_the_piece_with_the_refused_line(rt: HostRuntime) {
     let mut source = MadeText::make(b"p cnf 1 0\nx", b" ", 1_000_000, b"\nc\n\n");

@@ -11,8 +11,8 @@ use std::alloc::{AllocError, Global};
 const PIECE_SIZE: usize = 65_536;
 
 /// Reads a text from the source, up to its end, or up to the piece in which a line is refused or the text
-/// grows too long. Takes memory for the formula, for each variable of the show lines once, and for one
-/// buffer, whatever the length of the lines and of the text.
+/// grows too long. Takes memory for the formula, for the variables of the show lines (each once, and a byte for
+/// each number up to the largest), and for one buffer, whatever the length of the lines and of the text.
 pub fn read_subject<S: Source>(alloc: Global, source: &mut S) -> Result<Input, ReadRefused>
     ensures reads { ReadsText
         (S.left source.old) (S.left source.new)
@@ -41,7 +41,8 @@ fn read_pieces<S: Source>(
     source: &mut S,
     buffer: &mut [u8],
 ) -> Result<Input, ReadRefused>
-    requires { 0 < length buffer.old }
+    requires some { 0 < length buffer.old }
+    requires small { length buffer.old ≤ PIECE_SIZE }
     ensures { ReadsText
         (S.left source.old) (S.left source.new)
         (S.faults source.old) (S.faults source.new) result }

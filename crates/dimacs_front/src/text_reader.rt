@@ -1,9 +1,9 @@
-// A text read byte by byte, with the whole grammar. A line costs no memory, however long it is: only what is
-// seen of its open token is kept.
+// A text read byte by byte. A line costs no memory, however long it is: only what is seen of its open token
+// is kept.
 ghost use Rattle.std.specs.Prelude.{◌≡◌, ◌+◌, ◌^◌, ◌<◌, ◌≤◌, false, [], length, fold, OnOk};
 ghost use Rattle.dimacs_tokens.specs.Seen.{seen};
 ghost use Rattle.dimacs_tokens.specs.Reading.{reading_at, read_byte, token_ends, text_ends};
-ghost use Rattle.dimacs_front.specs.Whole.{text_at_start, eat_token, close_line, first_of, last_line, answer, answer_by};
+ghost use Rattle.dimacs_front.specs.Whole.{text_at_start, eat_token, close_line, answer};
 ghost use Rattle.dimacs_front.specs.Pieces.{Gives};
 
 use crate::text_state::TextState;
