@@ -59,7 +59,6 @@ FIRST_LINES += [b"c allsat saved1", b"call sat met"]
 HEADERS = [(1_000_000, 0), (1_000_001, 0), (1_000_001, 4_000_001), (3, 4_000_000), (3, 4_000_001)]
 HEADERS += [(4_096, 0), (4_097, 0)]
 NOTED = [name for name, number in NUMBERS.items() if number <= 10 or name == "NotBuilt"]
-MOST_FOR_THE_LISTER = 5_000  # variables; the program's search takes time in their square
 
 
 def random_bytes(choose, most):
@@ -232,11 +231,6 @@ def random_text(choose):
     return text
 
 
-def is_too_long(said):
-    """Whether the program's search would take long on the formula."""
-    return not isinstance(said, Refused) and said.variables > MOST_FOR_THE_LISTER
-
-
 def difference(said, ran):
     """What the run does otherwise than the checker says, or None."""
     if isinstance(said, Refused):
@@ -276,9 +270,6 @@ def main():
         choose = random.Random("%d of seed %d" % (place, seed))
         text = random_text(choose)
         said = read(text)
-        while is_too_long(said):
-            text = random_text(choose)
-            said = read(text)
         try_text("text %d of seed %d" % (place, seed), text, said)
         kinds[said.name if isinstance(said, Refused) else None] += 1
     accepted = kinds.pop(None, 0)

@@ -21,7 +21,8 @@ pub record IsTrail (n : ℕ) (items : List Item) (level : ℕ) : Type 0 where
   pub current : level ≡ depth_from 0 items
 
 -- The table tells the item of each variable, and a place is kept for an item of each.
-pub record IsKept (items : List Item) (given : List (Option Item)) (level capacity : ℕ) : Type 0 where
+pub record IsKept (items : List Item) (given : List (Option Item))
+    (level capacity : ℕ) : Type 0 where
   pub trail : IsTrail (length given - 1) items level
   pub places : 0 < length given
   pub tells : (v : ℕ) → v < length given → slice_index_or given v None ≡ item_of items v

@@ -1,4 +1,4 @@
-// What a text gives.
+//! What a text gives.
 use sat_terms::Subject;
 
 /// The input that a text says.

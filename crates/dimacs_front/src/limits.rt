@@ -1,4 +1,4 @@
-// The limits of a text.
+//! The limits of a text.
 
 /// The most bytes of a text.
 pub const MOST_BYTES: usize = 1_073_741_824;

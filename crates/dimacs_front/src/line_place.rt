@@ -1,4 +1,4 @@
-// Where in a line a reader stands between two tokens.
+//! Where in a line a reader stands between two tokens.
 ghost use Rattle.std.specs.Prelude.{◌≡◌};
 ghost use Rattle.dimacs_tokens.specs.Numbers.{value_of};
 ghost use Rattle.dimacs_front.specs.LinePlaces.{natural, place_after, header_begun, comment_begun, behind_variables, behind_clauses, refusal_at};

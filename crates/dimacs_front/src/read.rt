@@ -1,4 +1,4 @@
-// The loop over the source.
+//! The loop over the source.
 ghost use Rattle.std.specs.Prelude.{◌≡◌, ◌-◌, ◌<◌, ◌≤◌, length, vec_len, IfOk};
 ghost use Rattle.dimacs_front.specs.Answers.{ReadsText, TellsText, IsWithinLimits};
 ghost use Rattle.dimacs_front.specs.Pieces.{FeedsOn};

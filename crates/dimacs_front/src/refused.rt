@@ -1,4 +1,4 @@
-// Why a text is refused: the name, the line, and the number in notes to the user.
+//! Why a text is refused: the name, the line, and the number in notes to the user.
 ghost use Rattle.std.specs.Prelude.{◌≡◌};
 ghost use Rattle.dimacs_front.specs.Numbering.{number_of, name_of, line_of};
 

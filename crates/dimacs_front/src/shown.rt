@@ -1,4 +1,4 @@
-// The variables that are shown.
+//! The variables that are shown.
 ghost use Rattle.std.specs.Prelude.{◌≡◌, ◌<◌, ◌≤◌, ℕ, [], not, false, get_or, vec_len, IfOk, OnOk};
 ghost use Rattle.dimacs_front.specs.Grammar.{is_named, name_once};
 ghost use Rattle.dimacs_front.specs.Ending.{first_above, few, or_named, shown_of};

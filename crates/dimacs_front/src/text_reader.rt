@@ -1,5 +1,5 @@
-// A text read byte by byte. A line costs no memory, however long it is: only what is seen of its open token
-// is kept.
+//! A text read byte by byte. A line costs no memory, however long it is: only what is seen of its open token
+//! is kept.
 ghost use Rattle.std.specs.Prelude.{◌≡◌, ◌+◌, ◌^◌, ◌<◌, ◌≤◌, false, [], length, fold, OnOk};
 ghost use Rattle.dimacs_tokens.specs.Seen.{seen};
 ghost use Rattle.dimacs_tokens.specs.Reading.{reading_at, read_byte, token_ends, text_ends};

@@ -1,4 +1,4 @@
-// What the tokens of a text say so far.
+//! What the tokens of a text say so far.
 ghost use Rattle.std.specs.Prelude.{◌≡◌, OnOk, ◌<◌, nat_abs};
 ghost use Rattle.dimacs_front.specs.LinePlaces.{refusal_at};
 ghost use Rattle.dimacs_front.specs.Grammar.{nothing_said_yet, zero_eaten, literal_eaten, number_eaten, shown_eaten, below_begun, line_begun, eaten, header_ended, closed};

@@ -1,4 +1,4 @@
-// What the header and the clauses of a text say so far.
+//! What the header and the clauses of a text say so far.
 ghost use Rattle.std.specs.Prelude.{◌≡◌, ◌≤◌, ◌<◌, length, OnOk};
 ghost use Rattle.sat_terms.specs.Literals.{IsLiteral};
 ghost use Rattle.dimacs_tokens.specs.Seen.{is_nil};

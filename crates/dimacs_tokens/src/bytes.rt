@@ -1,4 +1,4 @@
-// The bytes that cut a text: the one that ends a line, and those that part tokens.
+//! The bytes that cut a text: the one that ends a line, and those that part tokens.
 ghost use Rattle.std.specs.Prelude.{◌≡◌};
 ghost use Rattle.dimacs_tokens.specs.Bytes.{is_newline, is_white};
 

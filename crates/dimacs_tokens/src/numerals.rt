@@ -1,5 +1,5 @@
-// Number tokens: one or more decimal digits, with a minus before them or without. Leading zeros are allowed,
-// and so is any length. A minus before the value 0 is no number, and nor is a token with a plus.
+//! Number tokens: one or more decimal digits, with a minus before them or without. Leading zeros are allowed,
+//! and so is any length. A minus before the value 0 is no number, and nor is a token with a plus.
 ghost use Rattle.std.specs.Prelude.{◌≡◌};
 ghost use Rattle.dimacs_tokens.specs.Numbers.{value_of, more_numeral, digit_after};
 

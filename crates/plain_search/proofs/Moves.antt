@@ -25,11 +25,10 @@ use Rattle.plain_search.specs.Entries.{TrailView, entry_of, is_decision, top_lev
 use Rattle.plain_search.specs.Pictures.{kind_of, item_of, picture, is_flat, work}
 use Rattle.plain_search.specs.Scans.{is_false, is_or_false, is_true, IsAtRest, IsNextVariable, HasPlace, is_enough, cube_upto}
 use Rattle.plain_search.specs.Searching.{is_within, IsSearching, IsDone, RunsOn, IsUnitEntry, AreUnitEntries, Propagates, HasFalseClause, TurnsOverOrEnds, Advances}
-use Rattle.plain_search.proofs.Passes.{All-literal}
 use Rattle.plain_search.proofs.Pictures.{assigned_entry, false_upto, enough_same, cube_of, flat_top, decision_there, flat_older, flat_turn_over}
 use Rattle.plain_search.proofs.Shrinks.{cube_rises, cube_over}
 use Rattle.plain_search.proofs.Work.{work_push, work_flip}
-use Rattle.sat_terms.proofs.CubeLemmas.{nat_abs-neg}
+use Rattle.sat_terms.proofs.CubeLemmas.{All-literal, nat_abs-neg}
 
 -- ---- what a subject is
 

@@ -1,10 +1,7 @@
 -- The steps of a pass over the clauses.
-use Rattle.std.proofs.Common.{◌≡◌, ℕ, ◌+◌, ◌<◌, true, ℤ, List, [], ◌∷◌, length, get_or, take, refl, sym, ap, subst, ◌∙◌, inl, inr, arith, length-append}
+use Rattle.std.proofs.Common.{◌≡◌, ℕ, ◌+◌, ◌<◌, ℤ, List, [], ◌∷◌, length, get_or, take, refl, ap, subst, ◌∙◌, arith, length-append}
 use Rattle.std.specs.List.{All}
-use Rattle.std.specs.Ordering.{int_eq}
-use Rattle.std.proofs.lemmas.Bool.{or_cases}
-use Rattle.std.proofs.lemmas.List.Elements.{All-push, All-head, All-tail}
-use Rattle.sat_terms.specs.Cubes.{has_literal}
+use Rattle.std.proofs.lemmas.List.Elements.{All-push}
 use Rattle.std.proofs.lemmas.List.{take_more}
 use Rattle.plain_search.specs.declared.trail.Cause.TheVariants.{Implied}
 use Rattle.plain_search.specs.declared.trail.Entry.{Entry}
@@ -13,7 +10,6 @@ use Rattle.plain_search.specs.declared.search.Passed.TheVariants.{Conflict, Move
 use Rattle.plain_search.specs.Entries.{top_level}
 use Rattle.plain_search.specs.Scans.{IsUnit, IsAtRest}
 use Rattle.plain_search.specs.Searching.{IsUnitEntry, Propagates}
-use Rattle.sat_terms.proofs.CubeLemmas.{int_eq-true}
 
 -- what a pass has come to after k clauses
 abbrev pub HasComeTo : List (List ℤ) → List Entry → List Entry → ℕ → Passed → Type 0
@@ -47,12 +43,3 @@ pub pass_neither : (f : List (List ℤ)) (old new : List Entry) (i : ℕ) (passe
 pass_neither f old new i Conflict h before e = before
 pass_neither f old new i Moved h before e = before
 pass_neither f old new i Quiet h before e = (before.0, rw (take_more f i [] h) (All-push (IsAtRest new) (take i f) (get_or f i []) before.1 e))
-
--- what holds of each literal of a clause holds of one of them
-pub All-literal : (P : ℤ → Type 0) (c : List ℤ) (l : ℤ) → All P c → has_literal c l ≡ true → P l
-All-literal P [] l all h = cc
-All-literal P (m ∷ c) l all h =
-    elim (or_cases (int_eq l m) (has_literal c l) h) [
-      | inl same ↦ subst P (sym (int_eq-true l m same)) (All-head P m c all)
-      | inr rest ↦ All-literal P c l (All-tail P m c all) rest
-    ]

@@ -5,7 +5,7 @@ use Rattle.std.specs.Ordering.{int_eq}
 use Rattle.std.proofs.lemmas.Bool.{and_parts, or_cases, or_left, or_right, both_ways, false_from_ne_true}
 use Rattle.sat_terms.specs.Cubes.{has_literal}
 use Rattle.sat_terms.specs.Literals.{IsLiteral}
-use Rattle.sat_terms.proofs.CubeLemmas.{nat_abs-neg, int_eq-true, int_eq-same, neg-not_same}
+use Rattle.sat_terms.proofs.CubeLemmas.{All-literal, nat_abs-neg, int_eq-true, int_eq-same, neg-not_same}
 use Rattle.search_region.specs.Moves.{has_pair}
 use Rattle.search_region.proofs.Literals.{same_variable}
 use Rattle.chrono_trail.specs.declared.item.Item.{Item}
@@ -13,7 +13,6 @@ use Rattle.chrono_trail.specs.Items.{item_of, are_distinct}
 use Rattle.chrono_trail.specs.Clauses.{is_false, is_or_false, IsUnit}
 use Rattle.propagation.specs.Scans.{IsAtRest}
 use Rattle.propagation.proofs.Scans.{item_variable, free_not_false, true_not_false}
-use Rattle.propagation.proofs.Steps.{All-literal}
 
 -- what holds of all literals holds of one of them
 holds_of : (p : ℤ → Bool) (c : List ℤ) (l : ℤ) → has_literal c l ≡ true → list_all p c ≡ true →

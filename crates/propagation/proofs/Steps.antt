@@ -1,11 +1,6 @@
 -- Steps of propagation, one after another.
-use Rattle.std.proofs.Common.{◌≡◌, ℕ, ◌+◌, ◌<◌, ◌≤◌, true, false, ℤ, List, [], ◌∷◌, ◌++◌, length, get_or, refl, sym, ap, subst, ◌∙◌, append_assoc, append-nil, inl, inr, arith, length-append, below_more}
-use Rattle.std.specs.List.{All}
-use Rattle.std.specs.Ordering.{int_eq}
-use Rattle.std.proofs.lemmas.Bool.{or_cases, both_ways, le-leb}
-use Rattle.std.proofs.lemmas.List.Elements.{All-head, All-tail}
-use Rattle.sat_terms.specs.Cubes.{has_literal}
-use Rattle.sat_terms.proofs.CubeLemmas.{int_eq-true}
+use Rattle.std.proofs.Common.{◌≡◌, ℕ, ◌+◌, ◌<◌, ◌≤◌, ℤ, List, [], ◌∷◌, ◌++◌, length, get_or, refl, sym, ap, subst, ◌∙◌, append_assoc, append-nil, arith, length-append, below_more}
+use Rattle.std.proofs.lemmas.Bool.{le-leb}
 use Rattle.chrono_trail.specs.declared.item.Kind.TheVariants.{Implied}
 use Rattle.chrono_trail.specs.declared.item.Item.{Item}
 use Rattle.chrono_trail.specs.Trails.{IsTrail}
@@ -68,15 +63,6 @@ same_from_length clauses old new p h = go p.added p.grows
         let long = ap length g in
         let both = length-append old (x ∷ added) in
         absurd (omega arith)
-
--- what holds of each literal of a clause holds of one of them
-pub All-literal : (P : ℤ → Type 0) (c : List ℤ) (l : ℤ) → All P c → has_literal c l ≡ true → P l
-All-literal P [] l all h = absurd (both_ways false refl h)
-All-literal P (m ∷ c) l all h =
-    elim (or_cases (int_eq l m) (has_literal c l) h) [
-      | inl same ↦ subst P (sym (int_eq-true l m same)) (All-head P m c all)
-      | inr rest ↦ All-literal P c l (All-tail P m c all) rest
-    ]
 
 -- the true level is at most the current one
 pub true_level_low : (n : ℕ) (items : List Item) (level : ℕ) (l : ℤ) (c : List ℤ) → IsTrail n items level → rest_level items l c ≤ level

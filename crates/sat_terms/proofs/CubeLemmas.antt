@@ -1,10 +1,12 @@
 -- Lemmas on rising literals, and on the walks over two cubes.
-use Rattle.std.proofs.Common.{◌≡◌, ℕ, zero, suc, ◌+◌, ◌<◌, ◌≤◌, Bool, true, false, ◌&&◌, ◌||◌, List, [], ◌∷◌, length, get_or, drop, refl, sym, ◌∙◌, ap, subst, arith}
+use Rattle.std.proofs.Common.{◌≡◌, ℕ, zero, suc, ◌+◌, ◌<◌, ◌≤◌, Bool, true, false, ◌&&◌, ◌||◌, List, [], ◌∷◌, length, get_or, drop, refl, sym, ◌∙◌, ap, subst, inl, inr, arith}
 use Rattle.std.specs.Prelude.{ℤ, pos, negsuc, neg_ℤ, nat_abs, nat_lt}
+use Rattle.std.specs.List.{All}
 use Rattle.std.specs.Ordering.{int_eq}
 use Rattle.std.proofs.Math.Seq.{drop-cons}
 use Rattle.std.proofs.lemmas.List.{drop_all}
-use Rattle.std.proofs.lemmas.Bool.{and_parts, and_from, ltb-true, lt-ltb, false_from_ne_true, or_from}
+use Rattle.std.proofs.lemmas.List.Elements.{All-head, All-tail}
+use Rattle.std.proofs.lemmas.Bool.{and_parts, and_from, ltb-true, lt-ltb, false_from_ne_true, or_from, or_cases, both_ways}
 use Rattle.std.proofs.lemmas.Bool.Decides.{Decides-int_eq}
 use Rattle.sat_terms.specs.Cubes.{rises_above, has_literal, apart, within}
 
@@ -28,6 +30,15 @@ int_eq-true l m h = (Decides-int_eq l m).0 h
 
 pub int_eq-other : (l m : ℤ) → (l ≡ m → ⊥) → int_eq l m ≡ false
 int_eq-other l m h = false_from_ne_true _ (λ e. h (int_eq-true l m e))
+
+-- what holds of each literal of a clause holds of one of them
+pub All-literal : (P : ℤ → Type 0) (c : List ℤ) (l : ℤ) → All P c → has_literal c l ≡ true → P l
+All-literal P [] l all h = absurd (both_ways false refl h)
+All-literal P (m ∷ c) l all h =
+    elim (or_cases (int_eq l m) (has_literal c l) h) [
+      | inl same ↦ subst P (sym (int_eq-true l m same)) (All-head P m c all)
+      | inr rest ↦ All-literal P c l (All-tail P m c all) rest
+    ]
 
 -- literals of different variables are different
 pub int_eq-apart : (l m : ℤ) → (nat_abs l ≡ nat_abs m → ⊥) → int_eq l m ≡ false

@@ -122,7 +122,8 @@ assignment_of-map m (q ∷ p) v h =
       | inr other ↦ rw other (assignment_of-map m p v (rw other at h))
     ]
 
-lit_true-agree : (t u : ℕ → Bool) (l : ℤ) → t (nat_abs l) ≡ u (nat_abs l) → lit_true t l ≡ lit_true u l
+-- a literal sees its own variable alone
+pub lit_true-agree : (t u : ℕ → Bool) (l : ℤ) → t (nat_abs l) ≡ u (nat_abs l) → lit_true t l ≡ lit_true u l
 lit_true-agree t u (pos n) h = h
 lit_true-agree t u (negsuc n) h = ap not h
 

@@ -13,10 +13,10 @@ use Rattle.search_region.specs.Moves.{Running}
 use Rattle.search_region.proofs.Agree.{agree_head, agree_tail, agree_more, agree_among, agree_all, levels_within}
 use Rattle.search_region.proofs.Heart.{heart, forced_true, flipped_true}
 use Rattle.search_region.proofs.Cut.{chosen_seen, or_false}
-use Rattle.search_region.proofs.Hits.{lit_same, hits_push, hits_same, holds_same}
+use Rattle.search_region.proofs.Hits.{hits_push, hits_same, holds_same}
 use Rattle.search_region.proofs.Region.{cases_le, root_whole, root_above}
 use Rattle.search_region.proofs.Found.{front_true}
-use Rattle.sat_terms.proofs.Disjoint.{lit_true-neg}
+use Rattle.sat_terms.proofs.Disjoint.{lit_true-agree, lit_true-neg}
 
 -- the item's literal stands in the prefix that the search is in
 abbrev pub in_front : (ℕ → Bool) → Item → Bool
@@ -224,7 +224,7 @@ agree_seen shown s t e [] = refl
 agree_seen shown s t e (i ∷ older) = ap₂ (λ a b. a && b) (here (shown (nat_abs i.lit)) refl) (agree_seen shown s t e older)
   where
     here : (b : Bool) → shown (nat_abs i.lit) ≡ b → (not (seen shown i) || lit_true s i.lit) ≡ (not (seen shown i) || lit_true t i.lit)
-    here true h = ap (λ b. not (seen shown i) || b) (lit_same s t i.lit (e (nat_abs i.lit) h))
+    here true h = ap (λ b. not (seen shown i) || b) (lit_true-agree s t i.lit (e (nat_abs i.lit) h))
     here false h = rw h refl
 
 pub cut_same : (shown s t : ℕ → Bool) → ((v : ℕ) → shown v ≡ true → s v ≡ t v) → (trail : List Item) → cut shown s trail ≡ cut shown t trail
@@ -236,7 +236,7 @@ cut_same shown s t e (i ∷ older) = ap₂ (λ a b. a || b) (cut_same shown s t 
     no_matter false x y = refl
 
     here : (b : Bool) → shown (nat_abs i.lit) ≡ b → leaves_at shown s i older ≡ leaves_at shown t i older
-    here true h = ap₂ (λ a b. (is_flipped i.kind && seen shown i) && (not a && b)) (lit_same s t i.lit (e (nat_abs i.lit) h)) (agree_seen shown s t e older)
+    here true h = ap₂ (λ a b. (is_flipped i.kind && seen shown i) && (not a && b)) (lit_true-agree s t i.lit (e (nat_abs i.lit) h)) (agree_seen shown s t e older)
     here false h = rw h (no_matter (is_flipped i.kind) (not (lit_true s i.lit) && agrees (seen shown) s older) (not (lit_true t i.lit) && agrees (seen shown) t older))
 
 -- while a search runs, what it found and what it left open fit the prefix

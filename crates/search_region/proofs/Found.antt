@@ -15,8 +15,7 @@ use Rattle.search_region.proofs.Literals.{all_weaker, any_weaker, none_both}
 use Rattle.search_region.proofs.Agree.{agree_head, agree_tail, agree_among, levels_within}
 use Rattle.search_region.proofs.Back.{steady_older}
 use Rattle.search_region.proofs.Flip.{fine_decided, assigned_newer}
-use Rattle.search_region.proofs.Hits.{lit_same}
-use Rattle.sat_terms.proofs.Disjoint.{lit_true-neg}
+use Rattle.sat_terms.proofs.Disjoint.{lit_true-agree, lit_true-neg}
 use Rattle.sat_terms.proofs.CubeLemmas.{int_eq-true, neg-not_same, nat_abs-neg}
 
 -- the literal stands on the trail
@@ -87,8 +86,8 @@ module _ (f : List (List ℤ)) (shown : ℕ → Bool) where
   kept_true : (b : ℕ) (t : ℕ → Bool) (trail : List Item) → Steady f shown trail → agrees (seen_upto shown b) t trail ≡ true → (l : ℤ) → 0 < nat_abs l → is_kept shown b trail l ≡ true → lit_true (with_hidden shown trail t) l ≡ true
   kept_true b t trail s a l named h =
       elim (kept_cases b t l trail a h) [
-        | inl g ↦ lit_same (with_hidden shown trail t) t l (rw g.0 refl) ∙ g.1
-        | inr g ↦ lit_same (with_hidden shown trail t) (value_on trail) l (rw g.0 refl) ∙ value_true l named trail s g.1
+        | inl g ↦ lit_true-agree (with_hidden shown trail t) t l (rw g.0 refl) ∙ g.1
+        | inr g ↦ lit_true-agree (with_hidden shown trail t) (value_on trail) l (rw g.0 refl) ∙ value_true l named trail s g.1
       ]
 
   -- a clause with a pair is true under any assignment

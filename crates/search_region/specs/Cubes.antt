@@ -22,8 +22,10 @@ pub record Good (f : List (List ℤ)) (shown t : ℕ → Bool) : Type 0 where
 abbrev pub over : (ℕ → Bool) → List ℤ → Bool
 over shown c = list_all (λ l. shown (nat_abs l)) c
 
--- Cubes found and prefixes left open are apart and within p, the cubes hold good assignments alone, and what is good in p is in one of them.
-pub record Fits (f : List (List ℤ)) (shown : ℕ → Bool) (p : List ℤ) (found left : List (List ℤ)) : Type 0 where
+-- Cubes found and prefixes left open are apart and within p, the cubes hold good assignments alone,
+-- and what is good in p is in one of them.
+pub record Fits (f : List (List ℤ)) (shown : ℕ → Bool) (p : List ℤ)
+    (found left : List (List ℤ)) : Type 0 where
   pub bound : (t : ℕ → Bool) → hits t found + hits t left ≤ hit t p
   pub good : (t : ℕ → Bool) → 0 < hits t found → Good f shown t
   pub cover : (t : ℕ → Bool) → sat f t ≡ true → hit t p ≤ hits t found + hits t left

@@ -14,40 +14,87 @@ StartsRunning = (f : List (List ℤ)) (shown : ℕ → Bool) → Running f shown
 
 -- A decision keeps the search running, a hidden one once each shown variable is assigned.
 abbrev pub DecisionKeepsRunning : Type 0
-DecisionKeepsRunning = (f : List (List ℤ)) (shown : ℕ → Bool) (base : ℕ) (p : List ℤ) (trail : List Item) (found : List (List ℤ)) (i : Item) → Running f shown base p trail found → i.kind ≡ Decided → i.level ≡ suc (depth trail) → 0 < nat_abs i.lit → is_assigned (nat_abs i.lit) trail ≡ false → (seen shown i ≡ false → IsFull shown trail) → Running f shown base p (i ∷ trail) found
+DecisionKeepsRunning =
+    (f : List (List ℤ)) (shown : ℕ → Bool) (base : ℕ) (p : List ℤ) (trail : List Item)
+    (found : List (List ℤ)) (i : Item) →
+    Running f shown base p trail found → i.kind ≡ Decided → i.level ≡ suc (depth trail) →
+    0 < nat_abs i.lit → is_assigned (nat_abs i.lit) trail ≡ false →
+    (seen shown i ≡ false → IsFull shown trail) →
+    Running f shown base p (i ∷ trail) found
 
 -- A literal that a clause implies keeps it running.
 abbrev pub ImpliedKeepsRunning : Type 0
-ImpliedKeepsRunning = (f : List (List ℤ)) (shown : ℕ → Bool) (base : ℕ) (p : List ℤ) (trail : List Item) (found : List (List ℤ)) (i : Item) (c : List ℤ) → Running f shown base p trail found → i.kind ≡ Implied c → i.level ≤ depth trail → 0 < nat_abs i.lit → is_assigned (nat_abs i.lit) trail ≡ false → Follows f c → is_reason c i trail ≡ true → Running f shown base p (i ∷ trail) found
+ImpliedKeepsRunning =
+    (f : List (List ℤ)) (shown : ℕ → Bool) (base : ℕ) (p : List ℤ) (trail : List Item)
+    (found : List (List ℤ)) (i : Item) (c : List ℤ) →
+    Running f shown base p trail found → i.kind ≡ Implied c → i.level ≤ depth trail →
+    0 < nat_abs i.lit → is_assigned (nat_abs i.lit) trail ≡ false →
+    Follows f c → is_reason c i trail ≡ true →
+    Running f shown base p (i ∷ trail) found
 
--- A conflict above the base keeps it running: the decision of the conflict's level, shown or hidden, is turned over.
+-- A conflict above the base keeps it running: the decision of the conflict's level, shown or
+-- hidden, is turned over.
 abbrev pub ConflictKeepsRunning : Type 0
-ConflictKeepsRunning = (f : List (List ℤ)) (shown : ℕ → Bool) (base : ℕ) (p : List ℤ) (newer : List Item) (d : Item) (older : List Item) (found : List (List ℤ)) (c : List ℤ) → Running f shown base p (newer ++ d ∷ older) found → d.kind ≡ Decided → base < d.level → Follows f c → is_false_upto d.level (newer ++ d ∷ older) c ≡ true → Running f shown base p (turn_over newer d older) found
+ConflictKeepsRunning =
+    (f : List (List ℤ)) (shown : ℕ → Bool) (base : ℕ) (p : List ℤ) (newer : List Item) (d : Item)
+    (older : List Item) (found : List (List ℤ)) (c : List ℤ) →
+    Running f shown base p (newer ++ d ∷ older) found → d.kind ≡ Decided → base < d.level →
+    Follows f c → is_false_upto d.level (newer ++ d ∷ older) c ≡ true →
+    Running f shown base p (turn_over newer d older) found
 
--- A found model keeps it running: its cube needs the shown items up to the level of d, and d is turned over.
+-- A found model keeps it running: its cube needs the shown items up to the level of d, and d is
+-- turned over.
 abbrev pub ModelKeepsRunning : Type 0
-ModelKeepsRunning = (f : List (List ℤ)) (shown : ℕ → Bool) (base : ℕ) (p : List ℤ) (newer : List Item) (d : Item) (older : List Item) (found : List (List ℤ)) (c : List ℤ) → Running f shown base p (newer ++ d ∷ older) found → d.kind ≡ Decided → base < d.level → are_named f ≡ true → reaches shown d.level (newer ++ d ∷ older) ≡ true → keeps_flips shown d.level (newer ++ d ∷ older) ≡ true → list_all (is_met shown d.level (newer ++ d ∷ older)) f ≡ true → CubeOf shown d.level (newer ++ d ∷ older) c → Running f shown base p (turn_over newer d older) (found ++ c ∷ [])
+ModelKeepsRunning =
+    (f : List (List ℤ)) (shown : ℕ → Bool) (base : ℕ) (p : List ℤ) (newer : List Item) (d : Item)
+    (older : List Item) (found : List (List ℤ)) (c : List ℤ) →
+    Running f shown base p (newer ++ d ∷ older) found → d.kind ≡ Decided → base < d.level →
+    are_named f ≡ true → reaches shown d.level (newer ++ d ∷ older) ≡ true →
+    keeps_flips shown d.level (newer ++ d ∷ older) ≡ true →
+    list_all (is_met shown d.level (newer ++ d ∷ older)) f ≡ true →
+    CubeOf shown d.level (newer ++ d ∷ older) c →
+    Running f shown base p (turn_over newer d older) (found ++ c ∷ [])
 
 -- A conflict at the base closes the search.
 abbrev pub ConflictCloses : Type 0
-ConflictCloses = (f : List (List ℤ)) (shown : ℕ → Bool) (base : ℕ) (p : List ℤ) (k : ℕ) (c : List ℤ) (trail : List Item) (found : List (List ℤ)) → Running f shown base p trail found → k ≤ base → Follows f c → is_false_upto k trail c ≡ true → Closed f shown p found
+ConflictCloses =
+    (f : List (List ℤ)) (shown : ℕ → Bool) (base : ℕ) (p : List ℤ) (k : ℕ) (c : List ℤ)
+    (trail : List Item) (found : List (List ℤ)) →
+    Running f shown base p trail found → k ≤ base → Follows f c → is_false_upto k trail c ≡ true →
+    Closed f shown p found
 
 -- A model whose cube needs no level above the base closes it.
 abbrev pub ModelCloses : Type 0
-ModelCloses = (f : List (List ℤ)) (shown : ℕ → Bool) (base : ℕ) (p : List ℤ) (c : List ℤ) (trail : List Item) (found : List (List ℤ)) → Running f shown base p trail found → are_named f ≡ true → keeps_flips shown base trail ≡ true → list_all (is_met shown base trail) f ≡ true → CubeOf shown base trail c → Closed f shown p (found ++ c ∷ [])
+ModelCloses =
+    (f : List (List ℤ)) (shown : ℕ → Bool) (base : ℕ) (p : List ℤ) (c : List ℤ)
+    (trail : List Item) (found : List (List ℤ)) →
+    Running f shown base p trail found → are_named f ≡ true → keeps_flips shown base trail ≡ true →
+    list_all (is_met shown base trail) f ≡ true → CubeOf shown base trail c →
+    Closed f shown p (found ++ c ∷ [])
 
--- A cube that meets each clause, with the hidden literals of the trail, holds good assignments alone.
+-- A cube that meets each clause, with the hidden literals of the trail, holds good assignments
+-- alone.
 abbrev pub MetCubeIsGood : Type 0
-MetCubeIsGood = (f : List (List ℤ)) (shown : ℕ → Bool) (b : ℕ) (trail : List Item) (c : List ℤ) → Steady f shown trail → are_named f ≡ true → list_all (is_met shown b trail) f ≡ true → CubeOf shown b trail c → (t : ℕ → Bool) → holds t c ≡ true → Good f shown t
+MetCubeIsGood = (f : List (List ℤ)) (shown : ℕ → Bool) (b : ℕ) (trail : List Item) (c : List ℤ) →
+    Steady f shown trail → are_named f ≡ true → list_all (is_met shown b trail) f ≡ true →
+    CubeOf shown b trail c → (t : ℕ → Bool) → holds t c ≡ true → Good f shown t
 
--- A closed search of everything found each good assignment in exactly one cube, and no other in any.
+-- A closed search of everything found each good assignment in exactly one cube, and no other in
+-- any.
 abbrev pub ClosedIsExact : Type 0
-ClosedIsExact = (f : List (List ℤ)) (shown : ℕ → Bool) (found : List (List ℤ)) → Closed f shown [] found → (t : ℕ → Bool) → (hits t found ≤ 1) × (Good f shown t ↔ (0 < hits t found))
+ClosedIsExact = (f : List (List ℤ)) (shown : ℕ → Bool) (found : List (List ℤ)) →
+    Closed f shown [] found → (t : ℕ → Bool) →
+    (hits t found ≤ 1) × (Good f shown t ↔ (0 < hits t found))
 
--- While the search runs, the cubes found, the prefixes untried and the present prefix are apart and hold every good assignment of p.
+-- While the search runs, the cubes found, the prefixes untried and the present prefix are apart and
+-- hold every good assignment of p.
 abbrev pub RunningFits : Type 0
-RunningFits = (f : List (List ℤ)) (shown : ℕ → Bool) (base : ℕ) (p : List ℤ) (trail : List Item) (found : List (List ℤ)) → Running f shown base p trail found → Fits f shown p found (left_open shown base trail)
+RunningFits =
+    (f : List (List ℤ)) (shown : ℕ → Bool) (base : ℕ) (p : List ℤ) (trail : List Item)
+    (found : List (List ℤ)) →
+    Running f shown base p trail found → Fits f shown p found (left_open shown base trail)
 
 -- Once it is closed, the cubes found do so alone.
 abbrev pub ClosedFits : Type 0
-ClosedFits = (f : List (List ℤ)) (shown : ℕ → Bool) (p : List ℤ) (found : List (List ℤ)) → Closed f shown p found → Fits f shown p found []
+ClosedFits = (f : List (List ℤ)) (shown : ℕ → Bool) (p : List ℤ) (found : List (List ℤ)) →
+    Closed f shown p found → Fits f shown p found []

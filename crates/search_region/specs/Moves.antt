@@ -9,7 +9,8 @@ use Rattle.search_region.specs.Cubes.{over}
 use Rattle.search_region.specs.Region.{Region}
 
 -- What each move of a search keeps.
-pub record Running (f : List (List ℤ)) (shown : ℕ → Bool) (base : ℕ) (p : List ℤ) (trail : List Item) (found : List (List ℤ)) : Type 0 where
+pub record Running (f : List (List ℤ)) (shown : ℕ → Bool) (base : ℕ) (p : List ℤ)
+    (trail : List Item) (found : List (List ℤ)) : Type 0 where
   pub steady : Steady f shown trail
   pub region : Region f shown base p trail found
 
@@ -19,19 +20,22 @@ is_false_upto k trail c = list_all (false_by k trail) c
 
 -- The literal is that of a hidden item, or of a shown one of level at most b.
 abbrev pub is_kept : (ℕ → Bool) → ℕ → List Item → ℤ → Bool
-is_kept shown b trail l = list_any (λ i. int_eq l i.lit && (not (seen shown i) || nat_le i.level b)) trail
+is_kept shown b trail l =
+    list_any (λ i. int_eq l i.lit && (not (seen shown i) || nat_le i.level b)) trail
 
 -- The clause holds a literal and its negation.
 abbrev pub has_pair : List ℤ → Bool
 has_pair c = list_any (λ l. list_any (int_eq (neg_ℤ l)) c) c
 
--- The clause is met by the hidden items and the shown ones of level at most b, or by any assignment.
+-- The clause is met by the hidden items and the shown ones of level at most b, or by any
+-- assignment.
 abbrev pub is_met : (ℕ → Bool) → ℕ → List Item → List ℤ → Bool
 is_met shown b trail c = has_pair c || list_any (is_kept shown b trail) c
 
 -- Each shown flipped item is of level at most b.
 abbrev pub keeps_flips : (ℕ → Bool) → ℕ → List Item → Bool
-keeps_flips shown b trail = list_all (λ i. not (is_flipped i.kind && seen shown i) || nat_le i.level b) trail
+keeps_flips shown b trail =
+    list_all (λ i. not (is_flipped i.kind && seen shown i) || nat_le i.level b) trail
 
 -- Some shown item is of level b.
 abbrev pub reaches : (ℕ → Bool) → ℕ → List Item → Bool

@@ -14,7 +14,8 @@ IsFull shown trail = (v : ℕ) → shown v ≡ true → is_assigned v trail ≡ 
 
 -- No solution that makes the older items without a clause true makes this one false.
 abbrev pub NoneBeside : List (List ℤ) → Item → List Item → Type 0
-NoneBeside f i older = (t : ℕ → Bool) → sat f t ≡ true → agrees branches t older ≡ true → lit_true t i.lit ≡ true
+NoneBeside f i older = (t : ℕ → Bool) → sat f t ≡ true → agrees branches t older ≡ true →
+    lit_true t i.lit ≡ true
 
 -- An assumed literal is shown, of level 0, and older than each decision.
 pub record FineAssumed (shown : ℕ → Bool) (i : Item) (older : List Item) : Type 0 where
@@ -28,12 +29,14 @@ pub record FineDecided (shown : ℕ → Bool) (i : Item) (older : List Item) : T
   pub late : seen shown i ≡ false → IsFull shown older
 
 -- A flipped literal is of the current level. Beside a hidden one nothing is left to find.
-pub record FineFlipped (f : List (List ℤ)) (shown : ℕ → Bool) (i : Item) (older : List Item) : Type 0 where
+pub record FineFlipped (f : List (List ℤ)) (shown : ℕ → Bool) (i : Item)
+    (older : List Item) : Type 0 where
   pub stays : i.level ≡ depth older
   pub late : seen shown i ≡ false → IsFull shown older
   pub spent : seen shown i ≡ false → NoneBeside f i older
 
--- A forced literal is of at most the current level, and has a clause that follows from the formula as its reason.
+-- A forced literal is of at most the current level, and has a clause that follows from the formula
+-- as its reason.
 pub record FineForced (f : List (List ℤ)) (c : List ℤ) (i : Item) (older : List Item) : Type 0 where
   pub bound : i.level ≤ depth older
   pub follows : Follows f c

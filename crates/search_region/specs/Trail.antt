@@ -1,10 +1,12 @@
--- The trail of a search: what is assigned, on which level, and why. A trail is a list with the newest item first.
+-- The trail of a search: what is assigned, on which level, and why. A trail is a list with the
+-- newest item first.
 use Rattle.std.specs.Prelude.{ℕ, zero, Bool, true, false, not, ◌&&◌, ◌||◌, cond, ℤ, neg_ℤ, nat_abs, List, [], ◌∷◌, ◌++◌, filter, nat_eq, nat_le}
 use Rattle.std.specs.List.{list_any, list_all}
 use Rattle.std.specs.Ordering.{int_eq}
 use Rattle.sat_terms.specs.Literals.{lit_true}
 
--- Why a literal is on the trail: it is one of the job's prefix, was decided, is a decision turned over, or follows by a clause (Turned, where this turned a decision over).
+-- Why a literal is on the trail: it is one of the job's prefix, was decided, is a decision turned
+-- over, or follows by a clause (Turned, where this turned a decision over).
 pub data Kind : Type 0 where
   Assumed : Kind
   Decided : Kind
@@ -91,7 +93,8 @@ seen_upto shown k i = shown (nat_abs i.lit) && nat_le i.level k
 abbrev pub false_by : ℕ → List Item → ℤ → Bool
 false_by k trail l = list_any (λ j. int_eq l (neg_ℤ j.lit) && nat_le j.level k) trail
 
--- Each literal of the clause but the item's own is false by an older item of at most the item's level.
+-- Each literal of the clause but the item's own is false by an older item of at most the item's
+-- level.
 abbrev pub is_reason : List ℤ → Item → List Item → Bool
 is_reason c i older = list_all (λ l. int_eq l i.lit || false_by i.level older l) c
 
@@ -107,6 +110,7 @@ agrees pick t trail = list_all (λ i. not (pick i) || lit_true t i.lit) trail
 abbrev pub flip : ℕ → Item → Item
 flip k d = record { lit = neg_ℤ d.lit; level = k; kind = Flipped }
 
--- The trail newer ++ d ∷ older after its decision d was turned over: what is of older levels stays, and d's negation joins it.
+-- The trail newer ++ d ∷ older after its decision d was turned over: what is of older levels stays,
+-- and d's negation joins it.
 abbrev pub turn_over : List Item → Item → List Item → List Item
 turn_over newer d older = flip (depth older) d ∷ back (depth older) (newer ++ d ∷ older)

@@ -1,10 +1,15 @@
-//! The laws of the search, each as the contract of an empty function. They rest on `sat_terms` alone.
+//! The laws of the search, each as the contract of an empty function. They rest on `sat_terms`
+//! alone.
 //!
-//! A search goes from assignment to assignment along a trail: it decides, propagates, and turns decisions over at conflicts and at
-//! models (chronological backtracking, so that no clause has to block a model again: Orna Grumberg, Assaf Schuster, Avi Yadgar,
-//! "Memory Efficient All-Solutions SAT Solver and Its Application for Reachability Analysis", 2004).
+//! A search goes from assignment to assignment along a trail: it decides, propagates, and turns
+//! decisions over at conflicts and at models (chronological backtracking, so that no clause has to
+//! block a model again: Orna Grumberg, Assaf Schuster, Avi Yadgar, "Memory Efficient All-Solutions
+//! SAT Solver and Its Application for Reachability Analysis", 2004).
 
-ghost use Rattle.search_region.specs.Laws.{StartsRunning, DecisionKeepsRunning, ImpliedKeepsRunning, ConflictKeepsRunning, ModelKeepsRunning, ConflictCloses, ModelCloses, MetCubeIsGood, ClosedIsExact, RunningFits, ClosedFits};
+ghost use Rattle.search_region.specs.Laws.{StartsRunning, DecisionKeepsRunning};
+ghost use Rattle.search_region.specs.Laws.{ImpliedKeepsRunning, ConflictKeepsRunning};
+ghost use Rattle.search_region.specs.Laws.{ModelKeepsRunning, ConflictCloses, ModelCloses};
+ghost use Rattle.search_region.specs.Laws.{MetCubeIsGood, ClosedIsExact, RunningFits, ClosedFits};
 
 /// The search of everything starts with nothing on the trail and nothing found.
 pub fn starts_running()
@@ -51,7 +56,8 @@ pub fn closed_is_exact()
     ensures { ClosedIsExact }
 {}
 
-/// The cubes found and the prefixes left open are apart and hold every good assignment, at each moment of the search.
+/// The cubes found and the prefixes left open are apart and hold every good assignment, at each
+/// moment of the search.
 pub fn running_fits()
     ensures { RunningFits }
 {}

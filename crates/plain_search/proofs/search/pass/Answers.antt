@@ -4,13 +4,14 @@ use mir.Syntax.{w32}
 use mir.Val.{SFits}
 use Rattle.std.proofs.lemmas.Int.{to_z-of_z}
 use Rattle.std.proofs.lemmas.List.{get_or_read}
+use Rattle.sat_terms.proofs.CubeLemmas.{All-literal}
 use Rattle.sat_terms.proofs.Machine.{nat_abs-bits}
 use Rattle.plain_search.specs.declared.trail.Entry.{Entry}
 use Rattle.plain_search.specs.declared.trail.Cause.TheVariants.{Implied}
 use Rattle.plain_search.specs.Entries.{top_level, TrailView}
 use Rattle.plain_search.specs.Scans.{HasPlace, IsUnit, IsAtRest}
 use Rattle.plain_search.specs.Searching.{Propagates}
-use Rattle.plain_search.proofs.Passes.{HasComeTo, pass_implies, pass_longer, pass_neither, All-literal}
+use Rattle.plain_search.proofs.Passes.{HasComeTo, pass_implies, pass_longer, pass_neither}
 use Rattle.plain_search.proofs.search.pass.Goals as goal
 use Rattle.plain_search.proofs.search.pass.Goals.{in-Unit+in_ok-imply-in-Unit, in-Neither}
 

@@ -2,13 +2,14 @@ use Rattle.std.proofs.Common.{◌≡◌, ℕ, ◌<◌, ◌≤◌, ℤ, [], ◌�
 use mir.Syntax.{w32}
 use mir.Val.{SFits, to_z, of_z}
 use Rattle.std.proofs.lemmas.Int.{to_z-of_z}
+use Rattle.sat_terms.proofs.CubeLemmas.{All-literal}
 use Rattle.sat_terms.proofs.Machine.{nat_abs-bits}
 use Rattle.chrono_trail.specs.declared.item.Kind.TheVariants.{Implied}
 use Rattle.chrono_trail.specs.Trails.{TrailView, IsTrail}
 use Rattle.chrono_trail.specs.Clauses.{IsUnit, rest_level}
 use Rattle.sat_terms.specs.Literals.{IsLiteralOf}
 use Rattle.propagation.specs.Scans.{IsAtRest}
-use Rattle.propagation.proofs.Steps.{All-literal, true_level_low, implied_by, implied_keeps, one_step, and_then, longer, rest_more}
+use Rattle.propagation.proofs.Steps.{true_level_low, implied_by, implied_keeps, one_step, and_then, longer, rest_more}
 use Rattle.propagation.proofs.propagator.pass.Goals as goal
 use Rattle.propagation.proofs.propagator.pass.Goals.{in-Unit, in-Neither}
 
