@@ -1,5 +1,7 @@
 pub mod FewNames
 pub mod HeaderLine
+pub mod NumberLine
+pub mod PassedLines
 pub mod ShowLine
 pub mod ShownSteps
 pub mod Sound

@@ -1,0 +1,5 @@
+use Rattle.dimacs_front.proofs.NumberLine.{number_line}
+use Rattle.dimacs_front.proofs.text_laws.a_line_of_numbers_says_these.Goals as goal
+
+pub returns : goal.returns
+returns c = number_line
