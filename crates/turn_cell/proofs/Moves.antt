@@ -61,9 +61,15 @@ module _ {T : Type 0} where
 
 module _ {T E F : Type 0} where
   lent_set : (home : maybe.Option (Option T)) (vs : List (View E F)) (me : ℕ) (v w : View E F) → get_elem? vs me ≡ some v → w.turn ≡ v.turn → IsLent home vs → IsLent home (set vs me w)
-  lent_set home vs me v w at same l = let i = l.1.0 in let u = l.1.1 in dite (ℕ_discrete i me)
-      (λ e. let one : u ≡ v = at_one vs i me u v l.1.2 at e in (l.0, (me, w, set_here vs me w (at_below vs me v at), same ∙ (ap (λ (x : View E F). x.turn) (sym one) ∙ l.1.3))))
-      (λ ne. (l.0, (i, u, set_else vs me i w ne ∙ l.1.2, l.1.3)))
+  lent_set home vs me v w at same l = let i = l.seat in let u = l.view in dite (ℕ_discrete i me)
+      (λ e. let one : u ≡ v = at_one vs i me u v l.at at e in record {
+        out = l.out;
+        seat = me;
+        view = w;
+        at = set_here vs me w (at_below vs me v at);
+        turn = same ∙ (ap (λ (x : View E F). x.turn) (sym one) ∙ l.turn);
+      })
+      (λ ne. record { out = l.out; seat = i; view = u; at = set_else vs me i w ne ∙ l.at; turn = l.turn })
 
 module _ {T E F : Type 0} (journal : T → List E) (pass_of : E → ℕ) (fixed : T → F) (start : F) (passes : ℕ) where
   Rule : State (Option T) (View E F) → Type 0
@@ -71,7 +77,7 @@ module _ {T E F : Type 0} (journal : T → List E) (pass_of : E → ℕ) (fixed 
 
   few_out : (s : State (Option T) (View E F)) (r : IsKept journal pass_of fixed start passes s) → r.out ≤ 64
   few_out s r = let h = total_within (λ (v : View E F). ticket_count v.ticket) (λ (v : View E F). length v.claims) s.views (λ i x e. held_within x.ticket (length x.claims) ((r.each i x e).seated)) in
-      let a = r.queue.counted in let b = r.roll.all in let c = r.roll.few in omega arith
+      let a = r.queue.counted in let b = r.roll.all in let c = r.roll.within in let d = r.roll.few in omega arith
 
   -- nothing changes but the view, to one that makes the same claims and has the turn as before
   module _ (s : State (Option T) (View E F)) (r : IsKept journal pass_of fixed start passes s) (id : ℕ) (v : View E F) (at : get_elem? s.views id ≡ some v) where
@@ -80,7 +86,7 @@ module _ {T E F : Type 0} (journal : T → List E) (pass_of : E → ℕ) (fixed 
 
     -- the seat with the turn has the ticket that is served, so no other has the turn
     only_turn : v.ticket ≡ Some r.served → (j : ℕ) (u : View E F) → get_elem? s.views j ≡ some u → u.turn ≡ true → j ≡ id
-    only_turn mine j u e turn = r.queue.apart j id r.served u v e at ((r.each j u e).lent turn).0 mine
+    only_turn mine j u e turn = r.queue.apart j id r.served u v e at ((r.each j u e).lent turn).ticket mine
 
     pub unmoved : (i : ℕ) → IsKept journal pass_of fixed start passes record { words = set s.words i (get_or s.words i 0); homes = s.homes; views = set s.views id v }
     unmoved i = subst (λ (x : List ℕ × List (View E F)). IsKept journal pass_of fixed start passes record { words = x.0; homes = s.homes; views = x.1 })
@@ -103,11 +109,12 @@ module _ {T E F : Type 0} (journal : T → List E) (pass_of : E → ℕ) (fixed 
           home = r.home;
           words = ap (λ (ws : List ℕ). set ws 0 ((t + 1) % 2 ^ 64)) r.words ∙ ap (λ (k : ℕ). k ∷ r.served ∷ length r.present ∷ []) up;
           homes = r.homes;
-          small = r.small;
+          served_small = r.served_small;
+          present_small = r.present_small;
           queue = queue_draw r.served r.out s.views r.queue id m.0 w at none_yet (omega arith) (ap (λ (k : ℕ). Some k) next);
           place = place_set s r id m.0 at w refl;
           each = each_set (λ j u. FitsSeat journal pass_of fixed r.served r.present r.home start u) s.views id w
-              (let old = r.each id m.0 at in record { seated = λ k e. live; lent = λ h. absurd (none_some r.served (sym none_yet ∙ (old.lent h).0)); known = old.known; same = old.same }) (λ j u other e. r.each j u e);
+              (let old = r.each id m.0 at in record { seated = λ k e. live; lent = λ h. absurd (none_some r.served (sym none_yet ∙ (old.lent h).ticket)); known = old.known; same = old.same }) (λ j u other e. r.each j u e);
           roll = roll_same r.made passes s.views r.roll id m.0 w at (λ n. refl) refl refl;
           entered = r.entered;
         },
@@ -121,12 +128,12 @@ module _ {T E F : Type 0} (journal : T → List E) (pass_of : E → ℕ) (fixed 
       dite (ℕ_discrete n t)
       (λ (e : n ≡ t). let mine : m.0.ticket ≡ Some r.served = drawn ∙ ap (λ (k : ℕ). Some k) (sym e ∙ found) in
       let home : IsHome journal pass_of fixed r.home r.present start = ⊎_elim (λ (h : IsHome journal pass_of fixed r.home r.present start). h)
-      (λ (l : IsLent r.home s.views). let same : l.1.0 ≡ id = only_turn s r id m.0 at mine l.1.0 l.1.1 l.1.2 l.1.3 in
-      absurd (not_both (sym l.1.3 ∙ (ap (λ (x : View E F). x.turn) (at_one s.views l.1.0 id l.1.1 m.0 l.1.2 at same) ∙ no_turn)))) r.place in
-      let x : T = home.0 in let w : View E F = with_turn (journal x) m.0 in (
+      (λ (l : IsLent r.home s.views). let same : l.seat ≡ id = only_turn s r id m.0 at mine l.seat l.view l.at l.turn in
+      absurd (not_both (sym l.turn ∙ (ap (λ (x : View E F). x.turn) (at_one s.views l.seat id l.view m.0 l.at at same) ∙ no_turn)))) r.place in
+      let x : T = home.value in let w : View E F = with_turn (journal x) m.0 in (
         w,
         takes 0 (Some x),
-        ap (λ (hs : List (maybe.Option (Option T))). get_elem? hs 0) r.homes ∙ ap some home.1,
+        ap (λ (hs : List (maybe.Option (Option T))). get_elem? hs 0) r.homes ∙ ap some home.there,
         record {
           served = r.served;
           out = r.out;
@@ -135,28 +142,38 @@ module _ {T E F : Type 0} (journal : T → List E) (pass_of : E → ℕ) (fixed 
           home = none;
           words = ap (λ (ws : List ℕ). set ws 1 (get_or ws 1 0)) r.words;
           homes = ap (λ (hs : List (maybe.Option (Option T))). set hs 0 none) r.homes;
-          small = r.small;
+          served_small = r.served_small;
+          present_small = r.present_small;
           queue = queue_same r.served r.out s.views r.queue id m.0 w at refl;
-          place = inr (refl, (id, w, set_here s.views id w (at_below s.views id m.0 at), refl));
+          place = inr record { out = refl; seat = id; view = w; at = set_here s.views id w (at_below s.views id m.0 at); turn = refl };
           each = each_set (λ j u. FitsSeat journal pass_of fixed r.served r.present none start u) s.views id w
-              record { seated = old.seated; lent = λ h. (mine, refl, home.2); known = old.known; same = old.same }
-              (λ j u other f. let o = r.each j u f in record { seated = o.seated; lent = λ h. ((o.lent h).0, refl, (o.lent h).2); known = o.known; same = o.same });
+              record { seated = old.seated; lent = λ h. record { ticket = mine; out = refl; found = home.whole }; known = old.known; same = old.same }
+              (λ j u other f. let o = r.each j u f in record { seated = o.seated; lent = λ h. record { ticket = (o.lent h).ticket; out = refl; found = (o.lent h).found }; known = o.known; same = o.same });
           roll = roll_same r.made passes s.views r.roll id m.0 w at (λ k. refl) refl refl;
           entered = r.entered;
         },
-        λ t' is. (
-          (λ e'. (
-            x,
-            refl,
-            record {
-              known = λ c h. subst (λ (p : List E). IsTrueOf pass_of p c) (sym home.2) (old.known c h);
-              same = λ f g. home.3 ∙ Some_injective _ _ (sym (old.same (old.seated t drawn)) ∙ g);
-            },
-          )),
-          (λ ne. absurd (ne (e ∙ Some_injective _ _ (sym drawn ∙ is)))),
-        ),
+        record {
+          served = λ t' is e'. record {
+            value = x;
+            taken = refl;
+            suits = record {
+              known = λ c h. subst (λ (p : List E). IsTrueOf pass_of p c) (sym home.whole) (old.known c h);
+              same = λ f g. home.same ∙ Some_injective _ _ (sym (old.same (old.seated t drawn)) ∙ g);
+            };
+          };
+          waits = λ t' is ne. absurd (ne (e ∙ Some_injective _ _ (sym drawn ∙ is)));
+        },
       ))
-      (λ ne. (m.0, keeps, tt, unmoved s r id m.0 at 1, λ t' is. ((λ e'. absurd (ne (e' ∙ Some_injective _ _ (sym is ∙ drawn)))), (λ _. refl))))
+      (λ ne. (
+        m.0,
+        keeps,
+        tt,
+        unmoved s r id m.0 at 1,
+        record {
+          served = λ t' is e'. absurd (ne (e' ∙ Some_injective _ _ (sym is ∙ drawn)));
+          waits = λ t' is _. refl;
+        },
+      ))
 
   -- a number of a claim is one that was made, and is no other claim's
   module _ (s : State (Option T) (View E F)) (r : IsKept journal pass_of fixed start passes s) (id : ℕ) (v : View E F) (at : get_elem? s.views id ≡ some v) (c : Claim E) (claims : Has c v.claims) where
@@ -175,7 +192,7 @@ module _ {T E F : Type 0} (journal : T → List E) (pass_of : E → ℕ) (fixed 
       let numbers : (e : E) → Has e added → pass_of e ≡ c.pass = All-Has (λ e. pass_of e ≡ c.pass) added all_numbers in
       let v : View E F = m.0 in let old = r.each id v at in let mine = old.lent turn in let w : View E F = with_journal (journal y) v in
       let n : ℕ = get_or s.words 2 0 in let found : n ≡ length r.present = ap (λ (ws : List ℕ). get_or ws 2 0) r.words in
-      let longer : journal y ≡ r.present ++ added = grows ∙ ap (λ (l : List E). l ++ added) mine.2 in
+      let longer : journal y ≡ r.present ++ added = grows ∙ ap (λ (l : List E). l ++ added) mine.found in
       let count : length (journal y) ≡ length r.present + k = ap length longer ∙ (length-append r.present added ∙ ap (λ (z : ℕ). length r.present + z) counted) in
       let up : (n + k) % 2 ^ 64 ≡ length (journal y) = ap (λ (z : ℕ). (z + k) % 2 ^ 64) found ∙ (ap (λ (z : ℕ). z % 2 ^ 64) (sym count) ∙ mod-eq_of_lt fits) in
       let claims : w.claims ≡ claim_after v.found (journal y) c ∷ [] = ap (claims_after v.found (journal y)) one_claim in
@@ -195,18 +212,19 @@ module _ {T E F : Type 0} (journal : T → List E) (pass_of : E → ℕ) (fixed 
           home = r.home;
           words = ap (λ (ws : List ℕ). set ws 2 ((n + k) % 2 ^ 64)) r.words ∙ ap (λ (z : ℕ). (r.served + r.out) % 2 ^ 64 ∷ r.served ∷ z ∷ []) up;
           homes = r.homes;
-          small = (r.small.0, fits);
+          served_small = r.served_small;
+          present_small = fits;
           queue = queue_same r.served r.out s.views r.queue id v w at refl;
-          place = inr (mine.1, (id, w, set_here s.views id w (at_below s.views id v at), turn));
+          place = inr record { out = mine.out; seat = id; view = w; at = set_here s.views id w (at_below s.views id v at); turn = turn };
           each = each_set (λ j u. FitsSeat journal pass_of fixed r.served (journal y) r.home start u) s.views id w record {
             seated = λ t e. let a = length-after v.found (journal y) v.claims in let b = old.seated t e in omega arith;
-            lent = λ h. (mine.0, mine.1, refl);
+            lent = λ h. record { ticket = mine.ticket; out = mine.out; found = refl };
             known = λ d h. ⊎_elim (λ (e : claim_after v.found (journal y) c ≡ d). subst (λ (z : Claim E). IsTrueOf pass_of (journal y) z) e record { begins = ([], append-nil (journal y)); own = own })
                 (λ (no : ⊥). absurd no) (subst (λ (cs : List (Claim E)). Has d cs) claims (Has-from_Contains w.claims d h));
             same = λ h. let a = length-after v.found (journal y) v.claims in old.same (omega arith);
           } (λ j u other e. let o = r.each j u e in record {
             seated = o.seated;
-            lent = λ h. absurd (other (only_turn s r id v at mine.0 j u e h));
+            lent = λ h. absurd (other (only_turn s r id v at mine.ticket j u e h));
             known = λ d h. let o_knew = o.known d h in record {
               begins = (o_knew.begins.0 ++ added, sym (append_assoc d.seen o_knew.begins.0 added) ∙ (ap (λ (l : List E). l ++ added) o_knew.begins.1 ∙ sym longer));
               own = let apart = number_apart s r id v at c has j u other e d (Has-from_Contains u.claims d h) in
@@ -228,7 +246,7 @@ module _ {T E F : Type 0} (journal : T → List E) (pass_of : E → ℕ) (fixed 
   pass_on_keeps slots id m y turn live carried whole same s r deep at small =
       let v : View E F = m.0 in let old = r.each id v at in let mine = old.lent turn in let w : View E F = without_turn v in
       let n : ℕ = get_or s.words 1 0 in let found : n ≡ r.served = ap (λ (ws : List ℕ). get_or ws 1 0) r.words in
-      let inside = r.queue.inside id r.served v at mine.0 in let some_out : 0 < r.out = omega (arith, inside.1) in
+      let inside = r.queue.inside id r.served v at mine.ticket in let some_out : 0 < r.out = omega (arith, inside.near) in
       let up : (n + 1) % 2 ^ 64 ≡ (r.served + 1) % 2 ^ 64 = ap (λ (z : ℕ). (z + 1) % 2 ^ 64) found in
       let kept : fixed y ≡ start = Some_injective _ _ (same ∙ old.same live) in (
         w,
@@ -242,12 +260,13 @@ module _ {T E F : Type 0} (journal : T → List E) (pass_of : E → ℕ) (fixed 
           home = some (Some y);
           words = ap (λ (ws : List ℕ). set ws 1 ((n + 1) % 2 ^ 64)) r.words ∙ (λ i. mod_step r.served r.out some_out i ∷ up i ∷ length r.present ∷ []);
           homes = (λ i. Rattle.atomic_table.specs.Table.put_back (r.homes i) (carried i));
-          small = (mod-lt (r.served + 1) (omega arith), r.small.1);
-          queue = queue_pass r.served r.out s.views r.queue id v w at r.small.0 mine.0 refl;
-          place = inl (y, refl, whole ∙ mine.2, kept);
+          served_small = mod-lt (r.served + 1) (omega arith);
+          present_small = r.present_small;
+          queue = queue_pass r.served r.out s.views r.queue id v w at r.served_small mine.ticket refl;
+          place = inl record { value = y; there = refl; whole = whole ∙ mine.found; same = kept };
           each = each_set (λ j u. FitsSeat journal pass_of fixed ((r.served + 1) % 2 ^ 64) r.present (some (Some y)) start u) s.views id w
               record { seated = λ t e. absurd (none_some t e); lent = λ h. absurd (not_both (sym h)); known = old.known; same = old.same }
-              (λ j u other e. let o = r.each j u e in record { seated = o.seated; lent = λ h. absurd (other (only_turn s r id v at mine.0 j u e h)); known = o.known; same = o.same });
+              (λ j u other e. let o = r.each j u e in record { seated = o.seated; lent = λ h. absurd (other (only_turn s r id v at mine.ticket j u e h)); known = o.known; same = o.same });
           roll = roll_same r.made passes s.views r.roll id v w at (λ z. refl) refl refl;
           entered = r.entered;
         },
@@ -266,12 +285,19 @@ module _ {T E F : Type 0} (journal : T → List E) (pass_of : E → ℕ) (fixed 
         home = r.home;
         words = r.words;
         homes = r.homes;
-        small = r.small;
+        served_small = r.served_small;
+        present_small = r.present_small;
         queue = queue_more r.served r.out (set s.views 0 (with_next_number v)) (new_view v) refl (queue_same r.served r.out s.views r.queue 0 v (with_next_number v) at0 refl);
         place = ⊎_elim (λ (h : IsHome journal pass_of fixed r.home r.present start). inl h)
-            (λ (l : IsLent r.home s.views). inr (let k = lent_set r.home s.views 0 v (with_next_number v) at0 refl l in (k.0, (k.1.0, k.1.1, at_longer (set s.views 0 (with_next_number v)) (new_view v ∷ []) k.1.0 k.1.1 k.1.2, k.1.3)))) r.place;
+            (λ (l : IsLent r.home s.views). inr (let k = lent_set r.home s.views 0 v (with_next_number v) at0 refl l in record {
+              out = k.out;
+              seat = k.seat;
+              view = k.view;
+              at = at_longer (set s.views 0 (with_next_number v)) (new_view v ∷ []) k.seat k.view k.at;
+              turn = k.turn;
+            })) r.place;
         each = λ j u e. ⊎_elim (λ (f : get_elem? (set s.views 0 (with_next_number v)) j ≡ some u). each_set (λ i x. FitsSeat journal pass_of fixed r.served r.present r.home start x) s.views 0 (with_next_number v)
-            record { seated = old.seated; lent = old.lent; known = old.known; same = old.same } (λ i x other f. r.each i x f) j u f)
+            record { seated = old.seated; lent = λ h. let t = old.lent h in record { ticket = t.ticket; out = t.out; found = t.found }; known = old.known; same = old.same } (λ i x other f. r.each i x f) j u f)
             (λ (is : new_view v ≡ u). subst (λ (x : View E F). FitsSeat journal pass_of fixed r.served r.present r.home start x) is record {
               seated = λ t h. absurd (none_some t h);
               lent = λ h. absurd (not_both (sym h));
@@ -297,14 +323,15 @@ module _ {T E F : Type 0} (journal : T → List E) (pass_of : E → ℕ) (fixed 
         home = r.home;
         words = r.words;
         homes = r.homes;
-        small = r.small;
+        served_small = r.served_small;
+        present_small = r.present_small;
         queue = queue_same r.served r.out first (queue_same r.served r.out s.views r.queue id v b at refl) other w spent_view at_w (sym no_ticket);
         place = ⊎_elim (λ (h : IsHome journal pass_of fixed r.home r.present start). inl h) (λ (l : IsLent r.home s.views). inr (lent_set r.home first other w spent_view at_w (sym no_turn) (lent_set r.home s.views id v b at refl l))) r.place;
         each = each_set (λ i x. FitsSeat journal pass_of fixed r.served r.present r.home start x) first other spent_view
             record { seated = λ t e. absurd (none_some t e); lent = λ h. absurd (not_both (sym h)); known = λ c h. absurd (Has-from_Contains [] c h); same = λ h. absurd (omega arith) }
             (λ j u ne e. each_set (λ i x. FitsSeat journal pass_of fixed r.served r.present r.home start x) s.views id b record {
               seated = λ t h. let k = old.seated t h in let z = length-append w.claims v.claims in omega arith;
-              lent = old.lent;
+              lent = λ h. let t = old.lent h in record { ticket = t.ticket; out = t.out; found = t.found };
               known = λ c h. ⊎_elim (λ (x : Has c w.claims). old_w.known c (Contains-from_Has w.claims c x)) (λ (x : Has c v.claims). old.known c (Contains-from_Has v.claims c x)) (has_append c w.claims v.claims (Has-from_Contains (w.claims ++ v.claims) c h));
               same = λ h. old.same live;
             } (λ i x other' f. r.each i x f) j u e);
@@ -321,13 +348,14 @@ module _ {T E F : Type 0} (journal : T → List E) (pass_of : E → ℕ) (fixed 
     home = some (Some x);
     words = refl;
     homes = refl;
-    small = (lit< tt, lit< tt);
+    served_small = lit< tt;
+    present_small = lit< tt;
     queue = record {
       counted = refl;
       inside = λ i t u e h. absurd (none_some t (ap (λ (z : View E F). z.ticket) (at_only (first_view start) i u e) ∙ h));
       apart = λ i j t u v e f h k. absurd (none_some t (ap (λ (z : View E F). z.ticket) (at_only (first_view start) i u e) ∙ h));
     };
-    place = inl (x, refl, none_yet, same);
+    place = inl record { value = x; there = refl; whole = none_yet; same = same };
     each = λ j u e. subst (λ (z : View E F). FitsSeat journal pass_of fixed 0 [] (some (Some x)) start z) (at_only (first_view start) j u e) record {
       seated = λ t h. absurd (none_some t h);
       lent = λ h. absurd (not_both (sym h));
@@ -338,31 +366,42 @@ module _ {T E F : Type 0} (journal : T → List E) (pass_of : E → ℕ) (fixed 
       once = λ n h. let k = one_same n 0 (omega arith) in omega arith;
       never = λ n h. let k = one_other n 0 (λ z. absurd (omega arith)) in omega arith;
       all = refl;
-      few = (some_pass, few);
+      within = some_pass;
+      few = few;
       first = λ u e h. sym (ap (λ (z : View E F). z.made) (at_only (first_view start) 0 u e));
     };
     entered = All-from_Has (λ e. pass_of e < 1) [] (λ e h. absurd h);
   }
 
-  -- The seat that took over every pass, with no turn, finds the value at home: it knows the journal of each pass, and every entry is of one of them
-  pub closing_known : (id : ℕ) (v : View E F) (words : List ℕ) (slots : List (Option T)) → length v.claims ≡ passes → v.turn ≡ false → Final (Seen (IsKept journal pass_of fixed start passes) id v) words slots
-      → (x : T) × (get_elem? slots 0 ≡ some (Some x)) × (fixed x ≡ start) × ((c : Claim E) → Contains v.claims c → IsTrueOf pass_of (journal x) c) × All (λ e. 0 < claim_count (pass_of e) v.claims) (journal x)
+  -- what the seat with this view knows of the value x at home, once it took over every pass
+  pub record KnowsAll (v : View E F) (slots : List (Option T)) (x : T) : Type 0 where
+    pub there : get_elem? slots 0 ≡ some (Some x)
+    pub same : fixed x ≡ start
+    pub known : (c : Claim E) → Contains v.claims c → IsTrueOf pass_of (journal x) c
+    pub entries : All (λ e. 0 < claim_count (pass_of e) v.claims) (journal x)
+
+  -- The seat that took over every pass, with no turn, finds the value at home: it knows the journal
+  -- of each pass, and every entry is of one of them.
+  pub closing_known : (id : ℕ) (v : View E F) (words : List ℕ) (slots : List (Option T)) → length v.claims ≡ passes → v.turn ≡ false
+      → Final (Seen (IsKept journal pass_of fixed start passes) id v) words slots → (x : T) × KnowsAll v slots x
   closing_known id v words slots all no_turn final =
       let s : State (Option T) (View E F) = final.0 in let r : IsKept journal pass_of fixed start passes s = final.1.0 in let at : get_elem? s.views id ≡ some v = final.1.1 in let old = r.each id v at in
-      let sum = r.roll.all in let few = r.roll.few.0 in
+      let sum = r.roll.all in let few = r.roll.within in
       let alone : (j : ℕ) (u : View E F) → j ≢ id → get_elem? s.views j ≡ some u → length u.claims ≡ 0 = λ j u other e. let two = total_two (λ (z : View E F). length z.claims) s.views j id u v e at other in omega arith in
       let home : IsHome journal pass_of fixed r.home r.present start = ⊎_elim (λ (h : IsHome journal pass_of fixed r.home r.present start). h)
-      (λ (l : IsLent r.home s.views). absurd (dite (ℕ_discrete l.1.0 id)
-      (λ same. not_both (sym l.1.3 ∙ (ap (λ (x : View E F). x.turn) (at_one s.views l.1.0 id l.1.1 v l.1.2 at same) ∙ no_turn)))
-      (λ other. let u = r.each l.1.0 l.1.1 l.1.2 in let some_claim = u.seated r.served (u.lent l.1.3).0 in let no_claim = alone l.1.0 l.1.1 other l.1.2 in absurd (omega arith)))) r.place in
-      let x : T = home.0 in let mine = total_at (λ (z : View E F). length z.claims) s.views id v at in
+      (λ (l : IsLent r.home s.views). absurd (dite (ℕ_discrete l.seat id)
+      (λ same. not_both (sym l.turn ∙ (ap (λ (x : View E F). x.turn) (at_one s.views l.seat id l.view v l.at at same) ∙ no_turn)))
+      (λ other. let u = r.each l.seat l.view l.at in let some_claim = u.seated r.served (u.lent l.turn).ticket in let no_claim = alone l.seat l.view other l.at in absurd (omega arith)))) r.place in
+      let x : T = home.value in let mine = total_at (λ (z : View E F). length z.claims) s.views id v at in
       let rest_empty : total (λ (z : View E F). length z.claims) (set s.views id spent_view) ≡ 0 = let h = total_set (λ (z : View E F). length z.claims) s.views id v spent_view at in omega arith in (
         x,
-        final.4 0 (Some x) (ap (λ (hs : List (maybe.Option (Option T))). get_elem? hs 0) r.homes ∙ ap some home.1),
-        home.3,
-        λ c h. subst (λ (p : List E). IsTrueOf pass_of p c) (sym home.2) (old.known c h),
-        All-from_Has (λ e. 0 < claim_count (pass_of e) v.claims) (journal x) (λ e h. let n : ℕ = pass_of e in let there : Has e r.present = subst (λ (p : List E). Has e p) home.2 h in
-            let once = r.roll.once n (All-Has (λ z. pass_of z < r.made) r.present r.entered e there) in
-            let rest_none = total_within (λ (z : View E F). claim_count n z.claims) (λ (z : View E F). length z.claims) (set s.views id spent_view) (λ i z f. claim_count_within n z.claims) in
-            let moved = total_set (λ (z : View E F). claim_count n z.claims) s.views id v spent_view at in omega arith),
+        record {
+          there = final.4 0 (Some x) (ap (λ (hs : List (maybe.Option (Option T))). get_elem? hs 0) r.homes ∙ ap some home.there);
+          same = home.same;
+          known = λ c h. subst (λ (p : List E). IsTrueOf pass_of p c) (sym home.whole) (old.known c h);
+          entries = All-from_Has (λ e. 0 < claim_count (pass_of e) v.claims) (journal x) (λ e h. let n : ℕ = pass_of e in let there : Has e r.present = subst (λ (p : List E). Has e p) home.whole h in
+              let once = r.roll.once n (All-Has (λ z. pass_of z < r.made) r.present r.entered e there) in
+              let rest_none = total_within (λ (z : View E F). claim_count n z.claims) (λ (z : View E F). length z.claims) (set s.views id spent_view) (λ i z f. claim_count_within n z.claims) in
+              let moved = total_set (λ (z : View E F). claim_count n z.claims) s.views id v spent_view at in omega arith);
+        },
       )

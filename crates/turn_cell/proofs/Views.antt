@@ -8,7 +8,7 @@ use lib.ListN.{get_elem?}
 use Rattle.atomic_table.proofs.Lists.{at_set, set_here, at_longer, at_snoc, one_turn}
 use Rattle.turn_cell.specs.declared.rule.Claim.{Claim}
 use Rattle.turn_cell.specs.declared.rule.View.{View}
-use Rattle.turn_cell.specs.Rule.{total, claim_count, ticket_count, spent_view, IsQueue, IsRoll}
+use Rattle.turn_cell.specs.Rule.{total, claim_count, ticket_count, spent_view, IsOut, IsQueue, IsRoll}
 use Rattle.turn_cell.specs.Steps.{with_next_number, new_view, with_claims}
 use Rattle.turn_cell.proofs.Lists.{total_append, total_set, total_same, one_same, one_other}
 
@@ -46,7 +46,7 @@ module _ {E F : Type 0} where
       (at_set vs me i w a ea)
 
   Inside : ℕ → ℕ → ℕ → View E F → Type 0
-  Inside served out j u = (t : ℕ) → u.ticket ≡ Some t → (d : ℕ) × (d < out) × (t ≡ (served + d) % 2 ^ 64)
+  Inside served out j u = (t : ℕ) → u.ticket ≡ Some t → IsOut served out t
 
   module _ (served out : ℕ) (vs : List (View E F)) (q : IsQueue served out vs) (me : ℕ) (v w : View E F) (at : get_elem? vs me ≡ some v) where
     pub queue_same : w.ticket ≡ v.ticket → IsQueue served out (set vs me w)
@@ -63,11 +63,11 @@ module _ {E F : Type 0} where
       counted = (
           let h = total_set (λ (u : View E F). ticket_count u.ticket) vs me v w at in let a : ticket_count v.ticket ≡ 0 = ap ticket_count none_yet in let b : ticket_count w.ticket ≡ 1 = ap ticket_count drawn in let c = q.counted in omega arith
           );
-      inside = λ i t u e. each_set (Inside served (out + 1)) vs me w (λ k h. (out, omega arith, sym (Some_injective _ _ (sym drawn ∙ h))))
-          (λ j x _ f k h. let p = q.inside j k x f h in (p.0, omega (arith, p.1), p.2)) i u e t;
+      inside = λ i t u e. each_set (Inside served (out + 1)) vs me w (λ k h. record { distance = out; near = omega arith; is = sym (Some_injective _ _ (sym drawn ∙ h)) })
+          (λ j x _ f k h. let p = q.inside j k x f h in record { distance = p.distance; near = omega (arith, p.near); is = p.is }) i u e t;
       apart = apart_set vs me w q.apart (λ j t u other e a b.
-          let p = q.inside j t u e b in let lt : p.0 < out = p.1 in let here : (served + out) % 2 ^ 64 ≡ t = Some_injective _ _ (sym drawn ∙ a) in
-          let k : served + p.0 ≡ served + out = one_turn (served + p.0) (served + out) (2 ^ 64) (omega arith) (omega arith) (sym p.2 ∙ sym here) in absurd (omega arith));
+          let p = q.inside j t u e b in let lt : p.distance < out = p.near in let here : (served + out) % 2 ^ 64 ≡ t = Some_injective _ _ (sym drawn ∙ a) in
+          let k : served + p.distance ≡ served + out = one_turn (served + p.distance) (served + out) (2 ^ 64) (omega arith) (omega arith) (sym p.is ∙ sym here) in absurd (omega arith));
     }
 
     pub queue_pass : served < 2 ^ 64 → v.ticket ≡ Some served → w.ticket ≡ None → IsQueue ((served + 1) % 2 ^ 64) (out - 1) (set vs me w)
@@ -77,10 +77,10 @@ module _ {E F : Type 0} where
           let h = total_set (λ (u : View E F). ticket_count u.ticket) vs me v w at in let a : ticket_count v.ticket ≡ 1 = ap ticket_count mine in let b : ticket_count w.ticket ≡ 0 = ap ticket_count gone in let c = q.counted in omega arith
           );
       inside = λ i t u e. each_set (Inside ((served + 1) % 2 ^ 64) (out - 1)) vs me w (λ k h. absurd (let z : None ≡ Some k = sym gone ∙ h in cc))
-          (λ j x other f k h. let p = q.inside j k x f h in let lt : p.0 < out = p.1 in
-          dite (ℕ_discrete p.0 0) (λ z. let first : k ≡ served = p.2 ∙ (let s : (served + p.0) ≡ served = omega arith in ap (λ (n : ℕ). n % 2 ^ 64) s ∙ omega arith) in
+          (λ j x other f k h. let p = q.inside j k x f h in let lt : p.distance < out = p.near in
+          dite (ℕ_discrete p.distance 0) (λ z. let first : k ≡ served = p.is ∙ (let s : (served + p.distance) ≡ served = omega arith in ap (λ (n : ℕ). n % 2 ^ 64) s ∙ omega arith) in
           absurd (other (q.apart j me served x v f at (h ∙ ap (λ (n : ℕ). Some n) first) mine)))
-          (λ z. (p.0 - 1, omega arith, p.2 ∙ mod_step served p.0 (omega arith)))) i u e t;
+          (λ z. record { distance = p.distance - 1; near = omega arith; is = p.is ∙ mod_step served p.distance (omega arith) })) i u e t;
       apart = apart_set vs me w q.apart (λ j t u other e a b. let z : None ≡ Some t = sym gone ∙ a in cc);
     }
 
@@ -99,6 +99,7 @@ module _ {E F : Type 0} where
       once = λ n h. total_same (λ (u : View E F). claim_count n u.claims) vs me v w at (counts n) ∙ r.once n h;
       never = λ n h. total_same (λ (u : View E F). claim_count n u.claims) vs me v w at (counts n) ∙ r.never n h;
       all = total_same (λ (u : View E F). length u.claims) vs me v w at sizes ∙ r.all;
+      within = r.within;
       few = r.few;
       first = λ u e live. ⊎_elim (λ (t : (0 ≡ me) × (w ≡ u)). let mine : w.made ≡ u.made = ap (λ (x : View E F). x.made) t.1 in let long : length w.claims ≡ length u.claims = ap (λ (x : View E F). length x.claims) t.1 in
           let lv : 0 < length v.claims = omega arith in sym mine ∙ (same ∙ r.first v (ap (get_elem? vs) t.0 ∙ at) lv))
@@ -113,7 +114,8 @@ module _ {E F : Type 0} where
               (λ e. let no_one = one_other n v.made e in let z = r.once n (omega arith) in omega arith);
           never = λ n h. let t = more (λ (u : View E F). claim_count n u.claims) refl in let no_one = one_other n v.made (λ e. absurd (omega arith)) in let z = r.never n (omega arith) in omega arith;
           all = let t = more (λ (u : View E F). length u.claims) refl in let z = r.all in omega arith;
-          few = (omega arith, r.few.1);
+          within = omega arith;
+          few = r.few;
           first = λ u e lu. let here : get_elem? (set vs 0 (with_next_number v) ++ new_view v ∷ []) 0 ≡ some (with_next_number v) = at_longer (set vs 0 (with_next_number v)) (new_view v ∷ []) 0 (with_next_number v) (set_here vs 0 (with_next_number v) (at_below vs 0 v at)) in
               let same : with_next_number v ≡ u = some-injective _ _ (sym here ∙ e) in let m : v.made + 1 ≡ u.made = ap (λ (x : View E F). x.made) same in omega arith;
         }
@@ -130,6 +132,7 @@ module _ {E F : Type 0} where
               let a = total_set (λ (u : View E F). length u.claims) vs me v (with_claims v w) at in let b = total_set (λ (u : View E F). length u.claims) (set vs me (with_claims v w)) other w spent_view at_w in
               let c = length-append w.claims v.claims in let d = r.all in omega arith
               );
+          within = r.within;
           few = r.few;
           first = λ u e lu. ⊎_elim (λ (t : (0 ≡ other) × (spent_view ≡ u)). let z : 0 ≡ length u.claims = ap (λ (x : View E F). length x.claims) t.1 in absurd (omega arith))
               (λ (t : (0 ≢ other) × (get_elem? (set vs me (with_claims v w)) 0 ≡ some u)). ⊎_elim (λ (k : (0 ≡ me) × (with_claims v w ≡ u)). let m : v.made ≡ u.made = ap (λ (x : View E F). x.made) k.1 in sym m ∙ r.first v (ap (get_elem? vs) k.0 ∙ at) live)

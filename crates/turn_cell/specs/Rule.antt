@@ -1,4 +1,5 @@
--- The rule of the table: the tickets, the place of the value, and one journal, of which each pass knows a beginning and its own entries.
+-- The rule of the table: the tickets, the place of the value, and one journal, of which each pass
+-- knows a beginning and its own entries.
 use Rattle.std.specs.Prelude.{◌≡◌, ◌⊎◌, ℕ, ◌+◌, ◌%◌, ◌^◌, ◌<◌, ◌≤◌, ◌==◌, Bool, true, false, List, [], ◌∷◌, All, Contains, filter, length, Option, Some, None}
 use mathlib.Core.Option.{some, none}
 use mathlib.Core.Option as maybe
@@ -35,52 +36,95 @@ module _ {E : Type 0} (pass_of : E → ℕ) where
   abbrev pub entries_of : ℕ → List E → List E
   entries_of n journal = filter (λ e. pass_of e == n) journal
 
-  -- The journal begins with what the pass has seen, and the pass's own entries are all that the journal has of its number
+  -- the journal begins with what the pass has seen, and the pass's own entries are all that the
+  -- journal has of its number
   pub record IsTrueOf (journal : List E) (c : Claim E) : Type 0 where
     pub begins : IsPrefix c.seen journal
     pub own : c.own ≡ entries_of c.pass journal
 
+-- the ticket t is one of the `out` ones from `served` on, counted with wrapping
+pub record IsOut (served out t : ℕ) : Type 0 where
+  pub distance : ℕ
+  pub near : distance < out
+  pub is : t ≡ (served + distance) % 2 ^ 64
+
 module _ {E F : Type 0} where
   -- a view that was joined into another
   abbrev pub spent_view : View E F
-  spent_view = record { ticket = None; turn = false; found = []; claims = []; fixed = None; made = 0 }
+  spent_view = record {
+    ticket = None;
+    turn = false;
+    found = [];
+    claims = [];
+    fixed = None;
+    made = 0;
+  }
 
   -- the first seat's view
   abbrev pub first_view : F → View E F
-  first_view start = record { ticket = None; turn = false; found = []; claims = new_claim 0 ∷ []; fixed = Some start; made = 1 }
+  first_view start = record {
+    ticket = None;
+    turn = false;
+    found = [];
+    claims = new_claim 0 ∷ [];
+    fixed = Some start;
+    made = 1;
+  }
 
-  -- The tickets out are those from `served` on, `out` of them, counted with wrapping, and no two seats have the same
+  -- the tickets out are those from `served` on, `out` of them, and no two seats have the same
   pub record IsQueue (served out : ℕ) (views : List (View E F)) : Type 0 where
     pub counted : total (λ v. ticket_count v.ticket) views ≡ out
-    pub inside : (i t : ℕ) (v : View E F) → get_elem? views i ≡ some v → v.ticket ≡ Some t → (d : ℕ) × (d < out) × (t ≡ (served + d) % 2 ^ 64)
-    pub apart : (i j t : ℕ) (v w : View E F) → get_elem? views i ≡ some v → get_elem? views j ≡ some w → v.ticket ≡ Some t → w.ticket ≡ Some t → i ≡ j
+    pub inside : (i t : ℕ) (v : View E F) → get_elem? views i ≡ some v → v.ticket ≡ Some t →
+        IsOut served out t
+    pub apart : (i j t : ℕ) (v w : View E F) → get_elem? views i ≡ some v →
+        get_elem? views j ≡ some w → v.ticket ≡ Some t → w.ticket ≡ Some t → i ≡ j
 
-  -- Each number below `made` is that of just one claim in all views, and no other number is. The first seat, while it has a claim, knows `made`
+  -- Each number below `made` is that of just one claim in all views, and no other number is. The
+  -- first seat, while it has a claim, knows `made`.
   pub record IsRoll (made passes : ℕ) (views : List (View E F)) : Type 0 where
     pub once : (n : ℕ) → n < made → total (λ v. claim_count n v.claims) views ≡ 1
     pub never : (n : ℕ) → made ≤ n → total (λ v. claim_count n v.claims) views ≡ 0
     pub all : total (λ v. length v.claims) views ≡ made
-    pub few : (made ≤ passes) × (passes ≤ 64)
+    pub within : made ≤ passes
+    pub few : passes ≤ 64
     pub first : (v : View E F) → get_elem? views 0 ≡ some v → 0 < length v.claims → v.made ≡ made
 
 module _ {T E F : Type 0} where
   -- the slot is out with a seat that has the turn
-  abbrev pub IsLent : maybe.Option (Option T) → List (View E F) → Type 0
-  IsLent home views = (home ≡ none) × ((i : ℕ) × (v : View E F) × (get_elem? views i ≡ some v) × (v.turn ≡ true))
+  pub record IsLent (home : maybe.Option (Option T)) (views : List (View E F)) : Type 0 where
+    pub out : home ≡ none
+    pub seat : ℕ
+    pub view : View E F
+    pub at : get_elem? views seat ≡ some view
+    pub turn : view.turn ≡ true
+
+  -- the view's seat has the turn: its ticket is served, the slot is out, and it found the present
+  -- journal
+  pub record HasTurn (served : ℕ) (present : List E) (home : maybe.Option (Option T))
+      (v : View E F) : Type 0 where
+    pub ticket : v.ticket ≡ Some served
+    pub out : home ≡ none
+    pub found : v.found ≡ present
 
 module _ {T E F : Type 0} (journal : T → List E) (pass_of : E → ℕ) (fixed : T → F) where
-  -- What holds of a seat with the view v. A spent view has no claims, no ticket and no turn, so that nothing is asked of it
-  pub record FitsSeat (served : ℕ) (present : List E) (home : maybe.Option (Option T)) (start : F) (v : View E F) : Type 0 where
+  -- What holds of a seat with the view v. A spent view has no claims, no ticket and no turn, so
+  -- that nothing is asked of it.
+  pub record FitsSeat (served : ℕ) (present : List E) (home : maybe.Option (Option T)) (start : F)
+      (v : View E F) : Type 0 where
     pub seated : (t : ℕ) → v.ticket ≡ Some t → 0 < length v.claims
-    pub lent : v.turn ≡ true → (v.ticket ≡ Some served) × (home ≡ none) × (v.found ≡ present)
+    pub lent : v.turn ≡ true → HasTurn served present home v
     pub known : (c : Claim E) → Contains v.claims c → IsTrueOf pass_of present c
     pub same : 0 < length v.claims → v.fixed ≡ Some start
 
   -- the slot at home has a value with the present journal
-  abbrev pub IsHome : maybe.Option (Option T) → List E → F → Type 0
-  IsHome home present start = (x : T) × (home ≡ some (Some x)) × (journal x ≡ present) × (fixed x ≡ start)
+  pub record IsHome (home : maybe.Option (Option T)) (present : List E) (start : F) : Type 0 where
+    pub value : T
+    pub there : home ≡ some (Some value)
+    pub whole : journal value ≡ present
+    pub same : fixed value ≡ start
 
-  -- The present list is what the seat with the turn has found, and the journal of the value at home where no seat has the turn
+  -- The present list is what the seat with the turn has found, and the journal of the value at home
+  -- where no seat has the turn.
   pub record IsKept (start : F) (passes : ℕ) (s : State (Option T) (View E F)) : Type 0 where
     pub served : ℕ
     pub out : ℕ
@@ -89,9 +133,11 @@ module _ {T E F : Type 0} (journal : T → List E) (pass_of : E → ℕ) (fixed 
     pub home : maybe.Option (Option T)
     pub words : s.words ≡ (served + out) % 2 ^ 64 ∷ served ∷ length present ∷ []
     pub homes : s.homes ≡ home ∷ []
-    pub small : (served < 2 ^ 64) × (length present < 2 ^ 64)
+    pub served_small : served < 2 ^ 64
+    pub present_small : length present < 2 ^ 64
     pub queue : IsQueue served out s.views
     pub place : IsHome home present start ⊎ IsLent home s.views
-    pub each : (i : ℕ) (v : View E F) → get_elem? s.views i ≡ some v → FitsSeat served present home start v
+    pub each : (i : ℕ) (v : View E F) → get_elem? s.views i ≡ some v →
+        FitsSeat served present home start v
     pub roll : IsRoll made passes s.views
     pub entered : All (λ e. pass_of e < made) present

@@ -1,5 +1,5 @@
 -- What each step makes of a seat's view, and what it tells.
-use Rattle.std.specs.Prelude.{◌≡◌, ℕ, ◌+◌, List, [], ◌∷◌, ◌++◌, Contains, drop, length, Option, Some, None, true, false}
+use Rattle.std.specs.Prelude.{◌≡◌, ℕ, ◌+◌, ◌^◌, ◌<◌, List, [], ◌∷◌, ◌++◌, All, Contains, drop, length, Option, Some, None, true, false}
 use Rattle.atomic_table.specs.Table.{Me, Step}
 use Rattle.atomic_table.specs.Seated.{TableId}
 use Rattle.atomic_table.specs.declared.shared.Seat.{Seat}
@@ -8,17 +8,20 @@ use Rattle.turn_cell.specs.declared.rule.View.{View}
 use Rattle.turn_cell.specs.Rule.{IsTrueOf, new_claim}
 
 -- three words and one slot
-abbrev pub IsSized : TableId → Type 0
-IsSized z = (z.words ≡ 3) × (z.slots ≡ 1)
+pub record IsSized (z : TableId) : Type 0 where
+  pub words : z.words ≡ 3
+  pub slots : z.slots ≡ 1
 
 -- the seat is of the same table, under the same number
-abbrev pub IsSameSeat : {S V : Type 0} → Seat S V → Seat S V → Type 0
-IsSameSeat s t = (t.table_id ≡ s.table_id) × (t.id ≡ s.id)
+pub record IsSameSeat {S V : Type 0} (s t : Seat S V) : Type 0 where
+  pub table : t.table_id ≡ s.table_id
+  pub number : t.id ≡ s.id
 
 module _ {E : Type 0} where
   -- the claim after a turn that found `found` and left `journal`
   abbrev pub claim_after : List E → List E → Claim E → Claim E
-  claim_after found journal c = record { pass = c.pass; seen = journal; own = c.own ++ drop (length found) journal }
+  claim_after found journal c =
+      record c { seen = journal; own = c.own ++ drop (length found) journal }
 
   -- the claims after that turn, of which the first is the seat's own
   abbrev pub claims_after : List E → List E → List (Claim E) → List (Claim E)
@@ -41,7 +44,8 @@ module _ {E F : Type 0} where
 
   -- the view once the journal is this one
   abbrev pub with_journal : List E → View E F → View E F
-  with_journal journal v = record v { found = journal; claims = claims_after v.found journal v.claims }
+  with_journal journal v =
+      record v { found = journal; claims = claims_after v.found journal v.claims }
 
   -- the view after its turn
   abbrev pub without_turn : View E F → View E F
@@ -53,25 +57,37 @@ module _ {E F : Type 0} where
 
   -- the view of that pass, whose number is next and which has seen nothing
   abbrev pub new_view : View E F → View E F
-  new_view v = record { ticket = None; turn = false; found = []; claims = new_claim v.made ∷ []; fixed = v.fixed; made = 0 }
+  new_view v = record {
+    ticket = None;
+    turn = false;
+    found = [];
+    claims = new_claim v.made ∷ [];
+    fixed = v.fixed;
+    made = 0;
+  }
 
   -- the claims of the other view stand in front
   abbrev pub with_claims : View E F → View E F → View E F
   with_claims v w = record v { claims = w.claims ++ v.claims }
 
+-- what a step on a word tells: the step, what the seat had, the number found, and what it has now
+abbrev pub Told : (T E F : Type 0) → Type 1
+Told T E F = Step (Option T) → Me (Option T) (View E F) → ℕ → Me (Option T) (View E F) → Type 0
+
 module _ {T E F : Type 0} where
   -- the number found is the ticket
-  abbrev pub DrawsTicket : Step (Option T) → Me (Option T) (View E F) → ℕ → Me (Option T) (View E F) → Type 0
+  abbrev pub DrawsTicket : Told T E F
   DrawsTicket st m n m' = m' ≡ (with_ticket n m.0, m.1)
 
   -- the turn is over, and the slot is given back
-  abbrev pub PassesOn : Step (Option T) → Me (Option T) (View E F) → ℕ → Me (Option T) (View E F) → Type 0
+  abbrev pub PassesOn : Told T E F
   PassesOn st m n m' = m' ≡ (without_turn m.0, [])
 
 module _ {T E F : Type 0} (journal : T → List E) where
   -- the journal is that of the value in the slot
-  abbrev pub EntersJournal : Step (Option T) → Me (Option T) (View E F) → ℕ → Me (Option T) (View E F) → Type 0
-  EntersJournal st m n m' = (y : T) → m.1 ≡ (0, Some y) ∷ [] → m' ≡ (with_journal (journal y) m.0, m.1)
+  abbrev pub EntersJournal : Told T E F
+  EntersJournal st m n m' = (y : T) → m.1 ≡ (0, Some y) ∷ [] →
+      m' ≡ (with_journal (journal y) m.0, m.1)
 
 module _ {T E F : Type 0} (journal : T → List E) (pass_of : E → ℕ) (fixed : T → F) where
   -- all that the view claims is true of the value x
@@ -80,9 +96,47 @@ module _ {T E F : Type 0} (journal : T → List E) (pass_of : E → ℕ) (fixed 
     pub same : (f : F) → v.fixed ≡ Some f → fixed x ≡ f
 
   -- the slot is taken, with a value that suits
-  abbrev pub TakesTurn : Me (Option T) (View E F) → Me (Option T) (View E F) → Type 0
-  TakesTurn m m' = (x : T) × (m' ≡ (with_turn (journal x) m.0, (0, Some x) ∷ m.1)) × Suits m.0 x
+  pub record TakesTurn (m m' : Me (Option T) (View E F)) : Type 0 where
+    pub value : T
+    pub taken : m' ≡ (with_turn (journal value) m.0, (0, Some value) ∷ m.1)
+    pub suits : Suits m.0 value
 
   -- the turn is taken exactly where the number found is the ticket
-  abbrev pub LooksForTurn : Step (Option T) → Me (Option T) (View E F) → ℕ → Me (Option T) (View E F) → Type 0
-  LooksForTurn st m n m' = (t : ℕ) → m.0.ticket ≡ Some t → (n ≡ t → TakesTurn m m') × (¬ (n ≡ t) → m' ≡ m)
+  pub record LooksForTurn (st : Step (Option T)) (m : Me (Option T) (View E F)) (n : ℕ)
+      (m' : Me (Option T) (View E F)) : Type 0 where
+    pub served : (t : ℕ) → m.0.ticket ≡ Some t → n ≡ t → TakesTurn m m'
+    pub waits : (t : ℕ) → m.0.ticket ≡ Some t → ¬ (n ≡ t) → m' ≡ m
+
+module _ {T E F : Type 0} where
+  -- the seat holds a value in its slot
+  pub record HoldsValue (m : Me (Option T) (View E F)) : Type 0 where
+    pub value : T
+    pub slot : m.1 ≡ (0, Some value) ∷ []
+
+module _ {T E F : Type 0} (journal : T → List E) where
+  -- the seat has a ticket and the turn, and the value that it found is out of the slot
+  pub record HasStarted (found : T) (m m' : Me (Option T) (View E F)) : Type 0 where
+    pub ticket : ℕ
+    pub now : m' ≡ (with_turn (journal found) (with_ticket ticket m.0), (0, None) ∷ [])
+
+  -- the seat holds the value whose journal it knows, and which has what it knows to stay the same
+  pub record HoldsKnown (fixed : T → F) (m : Me (Option T) (View E F)) : Type 0 where
+    pub value : T
+    pub slot : m.1 ≡ (0, Some value) ∷ []
+    pub whole : journal value ≡ m.0.found
+    pub same : Some (fixed value) ≡ m.0.fixed
+
+module _ {T E F : Type 0} (journal : T → List E) (pass_of : E → ℕ) where
+  -- the value's journal is what the view's seat found and so many entries more, of its pass
+  pub record HasGrown (v : View E F) (count : ℕ) (y : T) : Type 0 where
+    pub added : List E
+    pub grows : journal y ≡ v.found ++ added
+    pub fits : length (journal y) < 2 ^ 64
+    pub counted : length added ≡ count
+    pub numbers : All (λ e. pass_of e ≡ (first_claim v.claims).pass) added
+
+  -- the seat holds such a value
+  pub record HoldsGrown (m : Me (Option T) (View E F)) (count : ℕ) : Type 0 where
+    pub value : T
+    pub slot : m.1 ≡ (0, Some value) ∷ []
+    pub grown : HasGrown m.0 count value

@@ -6,7 +6,8 @@ use crate::journal::Journalled;
 use crate::rule::Place;
 use std::marker::Model;
 
-/// The right to take turns at one cell, one at a time. Contracts see its number, what it has seen of the journal, and its own entries.
+/// The right to take turns at one cell, one at a time. Contracts see its number, what it has seen
+/// of the journal, and its own entries.
 pub struct Pass<T: Journalled> {
     pub(crate) number: u32,
     pub(crate) seat: Place<T>,
@@ -34,7 +35,7 @@ impl<T: Journalled> Pass<T> {
         self.number
     }
 
-    // The seat that it takes its turns with.
+    /// The seat that it takes its turns with.
     pub(crate) fn into_seat(self) -> Place<T>
         ensures idle { IsIdle T.pass_of self.number result }
         ensures same { pass_view self.number result ≡ self }

@@ -1,11 +1,13 @@
-//! The table that the passes of one cell share: what each seat knows, and the rule that every step keeps.
-//! Word 0 is the next ticket, word 1 the ticket that is served, and word 2 the journal's length. Slot 0 holds the value.
+//! The table that the passes of one cell share: what each seat knows, and the rule that every step
+//! keeps. Word 0 is the next ticket, word 1 the ticket that is served, and word 2 the journal's
+//! length. Slot 0 holds the value.
 use crate::journal::Journalled;
 use atomic_table::{Join, Play, Seat, Shared, Split, TableRule};
 use std::collections::LinkedList;
 use std::snapshot::Snapshot;
 
-/// What is known of one pass: its number, what it has seen, and its own entries. No value of it is made.
+/// What is known of one pass: its number, what it has seen, and its own entries. No value of it is
+/// made.
 pub struct Claim<E> {
     pub pass: u32,
     pub seen: LinkedList<E>,
@@ -25,7 +27,8 @@ pub struct View<E, F> {
     pub made: u32,
 }
 
-/// What a table is claim_after once: the value that it began with, and how many passes it is for.
+/// What a table is told once, when it is made: the value that it begins with, and how many passes
+/// it is for.
 pub struct Start<T> {
     pub value: Snapshot<T>,
     pub passes: u32,
@@ -46,7 +49,8 @@ pub struct Turns;
 impl<T: Journalled> TableRule<Option<T>, View<T::Entry, T::Fixed>, Start<T>> for Turns {
     ghost use Rattle.turn_cell.specs.Rule.{IsKept, first_view};
 
-    ghost holds = { λ key. IsKept T.journal T.pass_of T.fixed (T.fixed key.value.value) key.passes };
+    ghost holds = { λ key.
+        IsKept T.journal T.pass_of T.fixed (T.fixed key.value.value) key.passes };
 
     ghost first = { λ key. first_view (T.fixed key.value.value) };
 }
@@ -72,7 +76,7 @@ impl<T: Journalled> Play<Option<T>, View<T::Entry, T::Fixed>> for Draw {
     ghost then = { DrawsTicket };
 }
 
-/// The ticket that is served is LooksForTurn at, and the value is taken where it is the seat's own.
+/// The ticket that is served is looked at, and the value is taken where it is the seat's own.
 pub(crate) struct Look;
 
 impl<T: Journalled> Play<Option<T>, View<T::Entry, T::Fixed>> for Look {

@@ -9,7 +9,7 @@ use std::test::Fail;
 use std::thread;
 use std::thread::Threads;
 
-// The entries are pairs of a pass number and a number.
+/// The entries are pairs of a pass number and a number.
 #[derive(Drop)]
 struct Log {
     entries: Vec<(u32, u32)>,
@@ -65,7 +65,8 @@ fn two_passes_in_one_thread(rt: HostRuntime) -> Result<(), Fail> {
     Ok(())
 }
 
-// Appends a thousand numbers, each the next but one: the even ones where the pass's number is even, else the odd ones.
+/// Appends a thousand numbers, each the next but one: the even ones where the number of the pass is
+/// even, else the odd ones.
 fn append_each_second<R: Wait>(rt: &R, cell: &TurnCell<Log>, pass: &mut Pass<Log>)
     requires { IsPassOf cell.now pass.old }
     ensures { IsPassOf cell.now pass.new }
@@ -76,7 +77,7 @@ fn append_each_second<R: Wait>(rt: &R, cell: &TurnCell<Log>, pass: &mut Pass<Log
     }
 }
 
-// Each pass on a thread of its own.
+/// Each pass on a thread of its own.
 fn append_all<R: Threads + Wait + Sync>(rt: &R, cell: &TurnCell<Log>, passes: &mut [Pass<Log>])
     requires { (0 < length passes.old) × All (IsPassOf cell.now) passes.old }
     ensures { All (IsPassOf cell.now) passes.new }

@@ -3,4 +3,4 @@ use Rattle.atomic_table.specs.Table.{rest}
 use Rattle.turn_cell.proofs.steps.take_out.Goals as goal
 
 pub exchange-requires : goal.exchange-requires
-exchange-requires g c = let taken = c.requires.taken in (c.requires.table, (Some taken.0, taken.1 ∙ ap (λ cs. (0, Some taken.0) ∷ rest cs) (sym taken.1)))
+exchange-requires g c = let taken = c.requires.taken in (c.requires.table, (Some taken.value, taken.slot ∙ ap (λ cs. (0, Some taken.value) ∷ rest cs) (sym taken.slot)))

@@ -3,5 +3,5 @@ use Rattle.turn_cell.proofs.Moves.{join_keeps}
 use Rattle.turn_cell.proofs.steps.take_over.Goals as goal
 
 pub join_seat-requires : goal.join_seat-requires
-join_seat-requires g c = let idle = c.requires.idle in
-    (search rules, search rules, search rules, search rules, join_keeps g.T.Journalled.journal g.T.Journalled.pass_of g.T.Journalled.fixed _ _ _ _ _ _ idle.3 idle.0 idle.1)
+join_seat-requires g c =
+    (search rules, search rules, search rules, search rules, join_keeps g.T.Journalled.journal g.T.Journalled.pass_of g.T.Journalled.fixed _ _ _ _ _ _ c.requires.live c.requires.no_ticket c.requires.no_turn)

@@ -9,7 +9,7 @@ use Rattle.turn_cell.proofs.Closing.{all_last, all_front, claims_next, nothing_l
 use Rattle.turn_cell.proofs.cell.TurnCell.close.Goals as goal
 
 pub unreachable-requires : goal.unreachable-requires
-unreachable-requires g c = let some : 1 ≤ c.args.self.passes = subst (λ k. 1 ≤ k) (ap (λ v. v.passes) c.self.view_is) c.self.invariant.1 in
+unreachable-requires g c = let some : 1 ≤ c.args.self.passes = subst (λ k. 1 ≤ k) (ap (λ v. v.passes) c.self.view_is) c.self.invariant.some in
     let none : c.args.passes.items ≡ [] = nothing_left _ _ c.args.passes.ok.0 c.in_default.ensures.variant.1 in omega (arith, ap length none, c.requires.all)
 
 pub loop-pass-init : goal.loop-pass-init
@@ -23,19 +23,16 @@ loop-pass-init g c = let items = c.in-Some.ensures.items in let own = subst (All
       own = all_front (IsPassOf c.args.self) _ _ own;
     }
 
-pub take_over-requires-clause-table : goal.take_over-requires-clause-table
-take_over-requires-clause-table g c = let own = subst (All (IsPassOf c.args.self)) c.in-Some-pop.ensures.items c.loop-pass.invariant.own in (
-  c.loop-pass.invariant.table,
-  ap (λ q. q.table) c.into_seat.ensures.same ∙ ((all_last (IsPassOf c.args.self) _ _ own).table ∙ sym (ap (λ v. v.table) c.self.view_is)),
-  c.self.invariant.0,
-)
+pub take_over-requires-clause-other : goal.take_over-requires-clause-other
+take_over-requires-clause-other g c = let own = subst (All (IsPassOf c.args.self)) c.in-Some-pop.ensures.items c.loop-pass.invariant.own in
+    ap (λ q. q.table) c.into_seat.ensures.same ∙ ((all_last (IsPassOf c.args.self) _ _ own).table ∙ sym (ap (λ v. v.table) c.self.view_is))
 
 pub loop-pass-preserved : goal.loop-pass-preserved
 loop-pass-preserved g c = let items = c.in-Some-pop.ensures.items in let own = subst (All (IsPassOf c.args.self)) items c.loop-pass.invariant.own in
     let old = c.loop-pass.invariant in let did = c.take_over.ensures.claims in
     let claims = c.into_seat.ensures.idle.one_claim ∙ ap (λ q. claim_of q ∷ []) c.into_seat.ensures.same in
     let now : c.take_over.new.seat.me.0.claims ≡ (claim_of c.in-Some-pop.pass ∷ []) ++ c.loop-pass.seat.me.0.claims = ap (λ m. m.0.claims) did ∙ ap (λ l. l ++ c.loop-pass.seat.me.0.claims) claims in record {
-      table = c.take_over.ensures.seat.0 ∙ old.table;
+      table = c.take_over.ensures.seat.table ∙ old.table;
       turn = ap (λ m. m.0.turn) did ∙ old.turn;
       some_claim = omega (arith, ap length now);
       claims = ap (λ l. map claim_of c.pop-in-loop-pass.new.self.items ++ l) now ∙ (claims_next _ _ _ c.loop-pass.seat.me.0.claims items ∙ old.claims);

@@ -1,5 +1,5 @@
 use Rattle.std.proofs.Common.{sym, ap, subst}
-use Rattle.turn_cell.proofs.Turns.{found_due, no_shorter, counted, grown, numbered, fixed_back, idle_after, seen_after}
+use Rattle.turn_cell.proofs.Turns.{found_due, no_shorter, has_grown, fixed_back, idle_after, seen_after}
 use Rattle.turn_cell.proofs.cell.TurnCell.turn.Goals as goal
 
 pub act_once-answer-requires-clause-can : goal.act_once-answer-requires-clause-can
@@ -9,40 +9,31 @@ act_once-answer-requires-clause-can g c = let j = g.T.Journalled in let due = fo
 pub act_once-answer-requires-clause-grows : goal.act_once-answer-requires-clause-grows
 act_once-answer-requires-clause-grows g c y answer did = let j = g.T.Journalled in let due = found_due j.journal j.pass_of j.fixed _ _ _ _ c.pass.view_is c.pass.invariant c.requires.pass _ c.start_turn-value.ensures.suits in
     let does = subst (λ k. g.A.Act.does c.args.act c.start_turn-value.result k y answer) (ap (λ q. q.number) c.pass.view_is) did in
-    no_shorter j.journal j.pass_of j.fixed _ _ _ _ c.pass.view_is c.pass.invariant c.requires.pass _ _ _ (c.requires.adds _ _ _ due does).1
+    no_shorter j.journal j.pass_of j.fixed _ _ _ _ c.pass.view_is c.pass.invariant c.requires.pass _ _ (c.requires.adds _ _ _ due does)
 
 pub end_turn-requires-clause-value : goal.end_turn-requires-clause-value
 end_turn-requires-clause-value g c = let j = g.T.Journalled in let due = found_due j.journal j.pass_of j.fixed _ _ _ _ c.pass.view_is c.pass.invariant c.requires.pass _ c.start_turn-value.ensures.suits in
     let does = subst (λ k. g.A.Act.does c.args.act c.start_turn-value.result k c.act_once-answer.new.value c.act_once-answer.result.0) (ap (λ q. q.number) c.pass.view_is) c.act_once-answer.ensures.did in
-    let adds = c.requires.adds _ _ _ due does in let turn = c.start_turn-value.ensures.turn in (
-      adds.0,
-      grown j.journal j.pass_of j.fixed _ _ _ _ c.pass.view_is c.pass.invariant c.requires.pass _ _ _ due adds.1 _ _ turn.1,
-      c.act_once-answer.ensures.fits,
-      counted j.journal j.pass_of j.fixed _ _ _ _ c.pass.view_is c.pass.invariant c.requires.pass _ _ _ due adds.1 _ _ turn.1 _ c.act_once-answer.ensures.count,
-      numbered j.journal j.pass_of j.fixed _ _ _ _ c.pass.view_is c.pass.invariant c.requires.pass _ _ _ due adds.1 _ _ turn.1,
-    )
+    has_grown j.journal j.pass_of j.fixed _ _ _ _ c.pass.view_is c.pass.invariant c.requires.pass _ _ due (c.requires.adds _ _ _ due does) _ c.start_turn-value.ensures.turn _ c.act_once-answer.ensures.count c.act_once-answer.ensures.fits
 
 pub end_turn-requires-clause-fixed : goal.end_turn-requires-clause-fixed
 end_turn-requires-clause-fixed g c = let j = g.T.Journalled in let due = found_due j.journal j.pass_of j.fixed _ _ _ _ c.pass.view_is c.pass.invariant c.requires.pass _ c.start_turn-value.ensures.suits in
     let does = subst (λ k. g.A.Act.does c.args.act c.start_turn-value.result k c.act_once-answer.new.value c.act_once-answer.result.0) (ap (λ q. q.number) c.pass.view_is) c.act_once-answer.ensures.did in
-    let adds = c.requires.adds _ _ _ due does in
-    fixed_back j.journal j.pass_of j.fixed _ _ _ _ c.pass.view_is c.pass.invariant c.requires.pass _ _ _ due adds.1 _ _ c.start_turn-value.ensures.turn.1
+    fixed_back j.journal j.pass_of j.fixed _ _ _ _ c.pass.view_is c.pass.invariant c.requires.pass _ _ due (c.requires.adds _ _ _ due does) _ c.start_turn-value.ensures.turn
 
 pub invariant_of-pass : goal.invariant_of-pass
 invariant_of-pass g c = let j = g.T.Journalled in let due = found_due j.journal j.pass_of j.fixed _ _ _ _ c.pass.view_is c.pass.invariant c.requires.pass _ c.start_turn-value.ensures.suits in
     let does = subst (λ k. g.A.Act.does c.args.act c.start_turn-value.result k c.act_once-answer.new.value c.act_once-answer.result.0) (ap (λ q. q.number) c.pass.view_is) c.act_once-answer.ensures.did in
-    let adds = c.requires.adds _ _ _ due does in
-    idle_after j.journal j.pass_of j.fixed _ _ _ _ c.pass.view_is c.pass.invariant c.requires.pass _ _ _ due adds.1 _ _ c.start_turn-value.ensures.turn.1 c.end_turn.new.seat c.end_turn.ensures.turn
+    idle_after j.journal j.pass_of j.fixed _ _ _ _ c.pass.view_is c.pass.invariant c.requires.pass _ _ due (c.requires.adds _ _ _ due does) _ c.start_turn-value.ensures.turn c.end_turn.new.seat c.end_turn.ensures.turn
 
 pub returns-clause-turn : goal.returns-clause-turn
 returns-clause-turn g c = let j = g.T.Journalled in let due = found_due j.journal j.pass_of j.fixed _ _ _ _ c.pass.view_is c.pass.invariant c.requires.pass _ c.start_turn-value.ensures.suits in
     let does = subst (λ k. g.A.Act.does c.args.act c.start_turn-value.result k c.act_once-answer.new.value c.act_once-answer.result.0) (ap (λ q. q.number) c.pass.view_is) c.act_once-answer.ensures.did in
-    let adds = c.requires.adds _ _ _ due does in (
-      c.start_turn-value.result,
-      c.act_once-answer.new.value,
-      adds.0,
-      due,
-      does,
-      adds.1,
-      seen_after j.journal j.pass_of j.fixed _ _ _ _ c.pass.view_is c.pass.invariant c.requires.pass _ _ _ due adds.1 _ _ c.start_turn-value.ensures.turn.1 c.end_turn.new.seat c.end_turn.ensures.turn,
-    )
+    let entered = c.requires.adds _ _ _ due does in record {
+      found = c.start_turn-value.result;
+      left = c.act_once-answer.new.value;
+      due = due;
+      did = does;
+      entered = entered;
+      seen = seen_after j.journal j.pass_of j.fixed _ _ _ _ c.pass.view_is c.pass.invariant c.requires.pass _ _ due entered _ c.start_turn-value.ensures.turn c.end_turn.new.seat c.end_turn.ensures.turn;
+    }
