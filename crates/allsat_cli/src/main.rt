@@ -1,5 +1,5 @@
-//! The program: `allsat enumerate` reads a formula from standard input and writes its listing to standard
-//! output. What went wrong stands on standard error, and in the exit status.
+//! The program: `allsat enumerate` reads a formula from standard input and writes its listing to
+//! standard output. What went wrong stands on standard error, and in the exit status.
 #![tactic(auto)]
 
 use allsat_run::{Status, Words, run, write_note};
@@ -25,7 +25,8 @@ fn main(rt: HostRuntime) -> ExitCode {
     ExitCode::from(status.code())
 }
 
-/// The words after the program's name. Where one is no UTF-8 text there are none, which is no command.
+/// The words after the program's name. Where one is no UTF-8 text there are none, which is no
+/// command.
 fn given_words<R: Env + AllocGlobal>(rt: &R) -> Result<Words, AllocError> {
     let mut words = Words::make(rt.alloc());
     let arguments = match env::args(rt) {

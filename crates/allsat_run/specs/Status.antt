@@ -1,5 +1,5 @@
 -- The code of a status, and the line that it puts on the notes.
-use Rattle.std.specs.Prelude.{ℕ, List, [], ◌∷◌, ◌++◌, codes}
+use Rattle.std.specs.Prelude.{ℕ, List, [], ◌++◌, codes}
 use Rattle.std.specs.Fmt.{decimal}
 use Rattle.dimacs_front.specs.declared.refused.TextRefused.{TextRefused}
 use Rattle.dimacs_front.specs.declared.refused.TextRefused.TheVariants.{ClauseCount}
@@ -18,22 +18,24 @@ code_of WriteFault = 6
 
 -- a number, and the end of the line
 abbrev pub number_line : ℕ → List ℕ
-number_line n = decimal n ++ 10 ∷ []
+number_line n = decimal n ++ codes "\n"
 
 -- behind the line of a refused number of clauses: the header's number, and how many there are
 abbrev pub counts_of : TextRefused → List ℕ
-counts_of (ClauseCount line said found) = codes " said " ++ decimal said ++ codes " found " ++ decimal found
+counts_of (ClauseCount line said found) =
+    codes " said " ++ decimal said ++ codes " found " ++ decimal found
 counts_of r = []
 
 -- the number, the name and the line of a refusal, and the end of the line
 abbrev pub refusal_text : TextRefused → List ℕ
-refusal_text r = decimal (number_of r) ++ codes " " ++ name_of r ++ codes " line " ++ decimal (line_of r) ++ counts_of r ++ 10 ∷ []
+refusal_text r = decimal (number_of r) ++ codes " " ++ name_of r
+    ++ codes " line " ++ decimal (line_of r) ++ counts_of r ++ codes "\n"
 
 -- the line on the notes; a finished run puts none
 abbrev pub note_of : Status → List ℕ
 note_of Finished = []
-note_of WordsRefused = codes "allsat: words refused" ++ 10 ∷ []
+note_of WordsRefused = codes "allsat: words refused\n"
 note_of (InputRefused r) = codes "allsat: input refused: " ++ refusal_text r
-note_of OutOfMemory = codes "allsat: out of memory" ++ 10 ∷ []
+note_of OutOfMemory = codes "allsat: out of memory\n"
 note_of (ReadFault line) = codes "allsat: read fault line " ++ number_line line
-note_of WriteFault = codes "allsat: write fault" ++ 10 ∷ []
+note_of WriteFault = codes "allsat: write fault\n"

@@ -13,8 +13,9 @@ use std::alloc::Global;
 use std::sync::Wait;
 use std::thread::Threads;
 
-/// Does all that the program does: reads the words, then the input, enumerates, and writes the listing
-/// to `out` and the line of the status to `notes`. `words` are the words after the program's name.
+/// Does all that the program does: reads the words, then the input, enumerates, and writes the
+/// listing to `out` and the line of the status to `notes`. `words` are the words after the
+/// program's name.
 #[tactic(auto, using(dimacs_front::proofs::Taking::nothing_asked))]
 pub fn run<R: Threads + Wait + Sync, S: Source, K: Sink, N: Sink>(
     _rt: &R,
@@ -25,10 +26,10 @@ pub fn run<R: Threads + Wait + Sync, S: Source, K: Sink, N: Sink>(
     notes: &mut N,
 ) -> Ended
     ensures words { (result.status ≡ Status.WordsRefused) ↔ (¬ (IsEnumerate words.now)) }
-    ensures answers { Answers S.left S.faults K.held K.faults K.finished input.old input.new out.old out.new result.status }
+    ensures answers { Answers S.shows K.shows input.old input.new out.old out.new result.status }
     ensures complete { IsEnumerate words.now →
-        Completes S.left S.faults K.held K.faults K.finished input.old input.new out.old out.new result.status }
-    ensures notes { Notes N.held N.faults notes.old notes.new result.status }
+        Completes S.shows K.shows input.old input.new out.old out.new result.status }
+    ensures notes { Notes N.shows notes.old notes.new result.status }
 {
     let status = if words.is_enumerate() {
         enumerate_alone(alloc, input, out)
@@ -39,12 +40,12 @@ pub fn run<R: Threads + Wait + Sync, S: Source, K: Sink, N: Sink>(
     Ended { status }
 }
 
-/// Reads the input, enumerates and writes the listing, on the calling thread. It waits for nobody and
-/// always returns.
+/// Reads the input, enumerates and writes the listing, on the calling thread. It waits for nobody
+/// and always returns.
 pub fn enumerate_alone<S: Source, K: Sink>(alloc: Global, input: &mut S, out: &mut K) -> Status
     ensures words { result ≢ Status.WordsRefused }
-    ensures answers { Answers S.left S.faults K.held K.faults K.finished input.old input.new out.old out.new result }
-    ensures complete { Completes S.left S.faults K.held K.faults K.finished input.old input.new out.old out.new result }
+    ensures answers { Answers S.shows K.shows input.old input.new out.old out.new result }
+    ensures complete { Completes S.shows K.shows input.old input.new out.old out.new result }
 {
     let subject = match read_subject(alloc, input) {
         Ok(input) => input.subject,
@@ -60,7 +61,7 @@ pub fn enumerate_alone<S: Source, K: Sink>(alloc: Global, input: &mut S, out: &m
 
 /// Writes the listing, and finishes the output.
 fn write_out<K: Sink>(cubes: &Items<Cube>, out: &mut K) -> Status
-    ensures { WritesOut K.held K.faults K.finished cubes.now out.old out.new result }
+    ensures { WritesOut K.shows cubes.now out.old out.new result }
 {
     if write_listing(cubes, out).is_err() || out.finish().is_err() {
         return Status::WriteFault;

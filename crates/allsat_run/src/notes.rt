@@ -9,19 +9,22 @@ use cube_text::Buffered;
 use dimacs_front::TextRefused;
 use fault_io::Sink;
 
-/// Puts the line of the status on the notes; a finished run puts none. Where the notes fail, a front of
-/// the line is there, and nothing else comes of it.
+/// Puts the line of the status on the notes; a finished run leaves them alone. Where they fail, a
+/// front of the line is there, and nothing else comes of it.
 pub fn write_note<N: Sink>(status: &Status, notes: &mut N)
-    ensures { Notes N.held N.faults notes.old notes.new status.now }
+    ensures { Notes N.shows notes.old notes.new status.now }
 {
-    let mut buffer = Buffered::new();
+    if *status == Status::Finished {
+        return;
+    }
+    let mut buffer = Buffered::make();
     put_note(status, &mut buffer, notes);
     let _ = buffer.close(notes);
 }
 
 /// Hands the line in.
 fn put_note<N: Sink>(status: &Status, buffer: &mut Buffered, notes: &mut N)
-    ensures { HandsIn N.held N.faults notes.old buffer.old notes.new buffer.new (note_of status.now) }
+    ensures { HandsIn N.shows notes.old buffer.old notes.new buffer.new (note_of status.now) }
 {
     match status {
         Status::Finished => {}
@@ -41,7 +44,7 @@ fn put_note<N: Sink>(status: &Status, buffer: &mut Buffered, notes: &mut N)
 
 /// Hands in the number, the name and the line of a refusal, and the end of the line.
 fn put_refusal<N: Sink>(refused: &TextRefused, buffer: &mut Buffered, notes: &mut N)
-    ensures { HandsIn N.held N.faults notes.old buffer.old notes.new buffer.new (refusal_text refused.now) }
+    ensures { HandsIn N.shows notes.old buffer.old notes.new buffer.new (refusal_text refused.now) }
 {
     put_number(u64::from(refused.number()), buffer, notes);
     buffer.put(b" ", notes);
@@ -54,7 +57,7 @@ fn put_refusal<N: Sink>(refused: &TextRefused, buffer: &mut Buffered, notes: &mu
 
 /// Hands in both numbers of a refused number of clauses.
 fn put_counts<N: Sink>(refused: &TextRefused, buffer: &mut Buffered, notes: &mut N)
-    ensures { HandsIn N.held N.faults notes.old buffer.old notes.new buffer.new (counts_of refused.now) }
+    ensures { HandsIn N.shows notes.old buffer.old notes.new buffer.new (counts_of refused.now) }
 {
     if let TextRefused::ClauseCount { said, found, .. } = refused {
         buffer.put(b" said ", notes);
@@ -66,7 +69,7 @@ fn put_counts<N: Sink>(refused: &TextRefused, buffer: &mut Buffered, notes: &mut
 
 /// Hands in a number and the end of the line.
 fn put_number_line<N: Sink>(number: u64, buffer: &mut Buffered, notes: &mut N)
-    ensures { HandsIn N.held N.faults notes.old buffer.old notes.new buffer.new (number_line number) }
+    ensures { HandsIn N.shows notes.old buffer.old notes.new buffer.new (number_line number) }
 {
     put_number(number, buffer, notes);
     buffer.put(b"\n", notes);
@@ -74,7 +77,7 @@ fn put_number_line<N: Sink>(number: u64, buffer: &mut Buffered, notes: &mut N)
 
 /// Hands in a number.
 fn put_number<N: Sink>(number: u64, buffer: &mut Buffered, notes: &mut N)
-    ensures { HandsIn N.held N.faults notes.old buffer.old notes.new buffer.new (decimal number) }
+    ensures { HandsIn N.shows notes.old buffer.old notes.new buffer.new (decimal number) }
 {
     let mut digits = itoa::Buffer::new();
     buffer.put(digits.format(number).as_bytes(), notes);

@@ -21,7 +21,8 @@ fn enumerate(alloc: Global) -> Result<Words, AllocError> {
     Ok(words)
 }
 
-/// Runs `enumerate` on a text, with a source and a sink that move four bytes a call and fail at these calls.
+/// Runs `enumerate` on a text, with a source and a sink that move four bytes a call and fail at
+/// these calls.
 fn run_with_faults<R: Threads + Wait + Sync + AllocGlobal>(
     rt: &R,
     text: &[u8],

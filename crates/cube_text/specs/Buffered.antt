@@ -1,8 +1,7 @@
--- What a buffered writer was handed since a start, which is what the sink held then and its count of faults,
--- and what of it went out.
-use Rattle.std.specs.Prelude.{◌≡◌, ℕ, ◌≤◌, Bool, true, false, Option, List, ◌++◌, Result}
-use Rattle.fault_io.specs.Bytes.{Appends, AppendsPrefix, WritesWhole}
-use Rattle.fault_io.specs.Faults.{Rose, HasCause}
+-- What a buffered writer was handed since a start, which is what the sink showed then, and what of
+-- it went out.
+use Rattle.std.specs.Prelude.{◌≡◌, ℕ, Bool, true, false, List, ◌++◌, Result}
+use Rattle.fault_io.specs.Sinks.{SinkView, TakesBytes, TakesFront, TakesWhole}
 
 -- the bytes that are kept back, and whether the sink failed
 pub record BufferedView : Type 0 where
@@ -10,31 +9,27 @@ pub record BufferedView : Type 0 where
   pub failed : Bool
 
 -- all of the text went out, but for what is kept back at its end
-pub record WentOut (start now : Option (List ℕ)) (text kept : List ℕ) : Type 0 where
+pub record WentOut (start now : SinkView) (text kept : List ℕ) : Type 0 where
   pub gone : List ℕ
   pub all : gone ++ kept ≡ text
-  pub appended : Appends start now gone
+  pub taken : TakesBytes start now gone
 
--- so it did; or the sink failed, and a front of the text went out
-abbrev pub IsOut : Option (List ℕ) → Option (List ℕ) → List ℕ → List ℕ → Bool → Type 0
+-- so it did; or a front of the text went out, and then the sink failed
+abbrev pub IsOut : SinkView → SinkView → List ℕ → List ℕ → Bool → Type 0
 IsOut start now text kept false = WentOut start now text kept
-IsOut start now text kept true = AppendsPrefix start now text
+IsOut start now text kept true = TakesFront start now text
 
 -- the writer was handed the text since the start
-pub record Wrote (start : Option (List ℕ)) (before : ℕ) (now : Option (List ℕ)) (count : ℕ) (text : List ℕ)
-    (b : BufferedView) : Type 0 where
-  pub later : before ≤ count
-  pub bytes : IsOut start now text b.kept b.failed
-  pub cause : b.failed ≡ true → Rose before count
+abbrev pub Wrote : SinkView → SinkView → List ℕ → BufferedView → Type 0
+Wrote start now text b = IsOut start now text b.kept b.failed
 
-module _ {S : Type 0} (held : S → Option (List ℕ)) (faults : S → ℕ) where
+module _ {K : Type 0} (shows : K → SinkView) where
   -- whatever the writer was handed since any start, it was handed the piece behind that
-  abbrev pub HandsIn : S → BufferedView → S → BufferedView → List ℕ → Type 0
-  HandsIn old b new c piece = (start : Option (List ℕ)) (before : ℕ) (text : List ℕ) →
-      Wrote start before (held old) (faults old) text b → Wrote start before (held new) (faults new) (text ++ piece) c
+  abbrev pub HandsIn : K → BufferedView → K → BufferedView → List ℕ → Type 0
+  HandsIn old b new c piece = (start : SinkView) (text : List ℕ) →
+      Wrote start (shows old) text b → Wrote start (shows new) (text ++ piece) c
 
   -- whatever it was handed since any start is out: whole, or where the sink failed a front of it
-  abbrev pub HandsOn : {T E : Type 0} → S → BufferedView → S → Result T E → Type 0
-  HandsOn old b new result = (start : Option (List ℕ)) (before : ℕ) (text : List ℕ) →
-      Wrote start before (held old) (faults old) text b →
-      WritesWhole start (held new) text result × HasCause before (faults new) result
+  abbrev pub PutsOut : {T E : Type 0} → K → BufferedView → K → Result T E → Type 0
+  PutsOut old b new result = (start : SinkView) (text : List ℕ) →
+      Wrote start (shows old) text b → TakesWhole start (shows new) text result

@@ -7,4 +7,5 @@ use Rattle.cube_text.specs.Listing.{listing}
 -- Different lists of cubes have different listings.
 abbrev pub TellsTheCubes : List (List ℤ) → List (List ℤ) → Type 0
 TellsTheCubes cubes others =
-    All (All IsLiteral) cubes → All (All IsLiteral) others → listing cubes ≡ listing others → cubes ≡ others
+    All (All IsLiteral) cubes → All (All IsLiteral) others →
+    listing cubes ≡ listing others → cubes ≡ others

@@ -1,7 +1,7 @@
 //! A writer that keeps bytes back until a buffer is full, so that a sink is called seldom.
 ghost use Rattle.std.specs.Prelude.{◌≡◌, false, [], ◌++◌};
 ghost use Rattle.std.specs.Bool.{OnTrue, OnFalse};
-ghost use Rattle.cube_text.specs.Buffered.{HandsIn, HandsOn};
+ghost use Rattle.cube_text.specs.Buffered.{HandsIn, PutsOut};
 
 use arrayvec::ArrayVec;
 use fault_io::{Sink, WriteFault, write_whole};
@@ -10,7 +10,8 @@ use std::marker::Model;
 /// How many bytes are kept back at most.
 const KEPT_BYTES: usize = 4096;
 
-/// Hands pieces to a sink in order. Once the sink has failed nothing more is put, and `close` tells it.
+/// Hands pieces to a sink in order. Once the sink has failed nothing more is put, and `close` tells
+/// it.
 #[derive(Drop)]
 pub struct Buffered {
     bytes: ArrayVec<u8, KEPT_BYTES>,
@@ -27,7 +28,7 @@ impl Model for Buffered {
 
 impl Buffered {
     /// Nothing is kept back, and nothing failed.
-    pub fn new() -> Buffered
+    pub fn make() -> Buffered
         ensures { result ≡ record { kept = []; failed = false } }
     {
         Buffered {
@@ -45,7 +46,8 @@ impl Buffered {
 
     /// Keeps the piece back where it has room.
     fn keep(&mut self, piece: &[u8]) -> bool
-        ensures kept { OnTrue result (self.new ≡ record self.old { kept = self.old.kept ++ piece.now }) }
+        ensures kept { OnTrue result
+            (self.new ≡ record self.old { kept = self.old.kept ++ piece.now }) }
         ensures full { OnFalse result (self.new ≡ self.old) }
     {
         self.bytes.try_extend_from_slice(piece).is_ok()
@@ -54,18 +56,20 @@ impl Buffered {
     /// Puts out what is kept back.
     fn flush<K: Sink>(&mut self, out: &mut K)
         ensures empty { self.new.kept ≡ [] }
-        ensures out { HandsIn K.held K.faults out.old self.old out.new self.new [] }
+        ensures out { HandsIn K.shows out.old self.old out.new self.new [] }
     {
-        if !self.failed {
-            self.failed = write_whole(self.bytes.as_slice(), out).is_err();
+        if self.failed {
+            self.bytes.clear();
+            return;
         }
+        self.failed = write_whole(self.bytes.as_slice(), out).is_err();
         self.bytes.clear();
     }
 
     /// Puts out a piece that the buffer has no room for.
     fn pass_on<K: Sink>(&mut self, piece: &[u8], out: &mut K)
         requires { self.old.kept ≡ [] }
-        ensures { HandsIn K.held K.faults out.old self.old out.new self.new piece.now }
+        ensures { HandsIn K.shows out.old self.old out.new self.new piece.now }
     {
         if !self.failed {
             self.failed = write_whole(piece, out).is_err();
@@ -74,7 +78,7 @@ impl Buffered {
 
     /// Takes the piece behind those before it.
     pub fn put<K: Sink>(&mut self, piece: &[u8], out: &mut K)
-        ensures { HandsIn K.held K.faults out.old self.old out.new self.new piece.now }
+        ensures { HandsIn K.shows out.old self.old out.new self.new piece.now }
     {
         if !self.keep(piece) {
             self.flush(out);
@@ -86,7 +90,7 @@ impl Buffered {
 
     /// Puts out what is still kept back, and tells whether all of the pieces are out.
     pub fn close<K: Sink>(mut self, out: &mut K) -> Result<(), WriteFault>
-        ensures { HandsOn K.held K.faults out.old self out.new result }
+        ensures { PutsOut K.shows out.old self out.new result }
     {
         self.flush(out);
         if self.failed {

@@ -1,6 +1,7 @@
 //! The listing of cubes as bytes, and the buffered writer that puts them out.
 //!
-//! Nothing here takes memory. It rests on the terms of cubes and on sinks that may fail at any call.
+//! Nothing here takes memory. It rests on the terms of cubes and on sinks that may fail at any
+//! call.
 #![tactic(auto)]
 
 mod buffered;

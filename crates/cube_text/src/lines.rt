@@ -6,8 +6,9 @@ ghost use Rattle.cube_text.specs.Lines.{ended, number_word, zero_ended};
 use crate::Buffered;
 use fault_io::Sink;
 
+/// Hands in a number and the space behind it.
 fn put_number<K: Sink>(number: i32, buffer: &mut Buffered, out: &mut K)
-    ensures { HandsIn K.held K.faults out.old buffer.old out.new buffer.new (number_word number) }
+    ensures { HandsIn K.shows out.old buffer.old out.new buffer.new (number_word number) }
 {
     let mut digits = itoa::Buffer::new();
     buffer.put(digits.format(number).as_bytes(), out);
@@ -16,7 +17,7 @@ fn put_number<K: Sink>(number: i32, buffer: &mut Buffered, out: &mut K)
 
 /// Hands in one line: the front, each number with a space behind, 0 and byte 10.
 pub fn put_line<K: Sink>(front: &[u8], numbers: &[i32], buffer: &mut Buffered, out: &mut K)
-    ensures { HandsIn K.held K.faults out.old buffer.old out.new buffer.new
+    ensures { HandsIn K.shows out.old buffer.old out.new buffer.new
         (ended (front.now ++ zero_ended numbers.now)) }
 {
     buffer.put(front, out);

@@ -5,7 +5,7 @@ use fault_io::{BytesOut, WriteFault};
 use sat_terms::CubeList;
 use std::test::Fail;
 
-// Cubes as slices.
+/// Cubes as slices.
 #[derive(Drop)]
 struct Cubes(&'static [&'static [i32]]);
 

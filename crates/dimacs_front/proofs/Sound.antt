@@ -26,6 +26,7 @@ use Rattle.dimacs_front.specs.LinePlaces.{header_begun, comment_begun}
 use Rattle.dimacs_front.specs.Grammar.{WrittenView, nothing_written, clause_ended, literal_added, StateView, at_place, refuse, in_clauses, zero_eaten, literal_eaten, number_eaten, show_ended, variable_named, shown_eaten, below_begun, line_begun, eaten_at, eaten, below_header, closed_at, closed}
 use Rattle.dimacs_front.specs.Ending.{end_refusal, or_named, shown_of, input_of, with_shown, by_end, end_of}
 use Rattle.dimacs_front.specs.Whole.{TextView, text_at_start, eat_token, close_line, text_after, last_line, answer_by, answer, reads}
+use Rattle.fault_io.specs.Sources.{SourceView}
 use Rattle.dimacs_front.specs.Answers.{ReadsText, IsWithinLimits}
 use Rattle.dimacs_front.proofs.FewNames.{AreFew, none_few, once_few, few_length}
 
@@ -278,11 +279,10 @@ reads_limits bs input k =
     reads_limits-at (leb (length bs) most_bytes) (text_after (lines bs)) _ input (text_sound (lines bs)).0 k
 
 -- what is read is within the limits
-pub text_limits : (old new : Option (List ℕ)) (before after : ℕ)
-    (result : Result Input ReadRefused) → ReadsText old new before after result →
-    IfOk result IsWithinLimits
-text_limits old new before after (Ok input) r = reads_limits r.bytes input r.says.says
-text_limits old new before after (Err failed) r = tt
+pub text_limits : (old new : SourceView) (result : Result Input ReadRefused) →
+    ReadsText old new result → IfOk result IsWithinLimits
+text_limits old new (Ok input) r = reads_limits r.bytes input r.says.says
+text_limits old new (Err failed) r = tt
 
 -- however long the text is, few names are kept
 pub names_few : (ls : List (List ℕ)) → length (text_after ls).state.named ≤ most_variables

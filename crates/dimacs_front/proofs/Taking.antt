@@ -5,9 +5,13 @@ use Rattle.dimacs_tokens.specs.Cuts.{cut_lines, cut_tokens}
 use Rattle.dimacs_tokens.specs.Seen.{seen}
 use Rattle.dimacs_tokens.specs.Reading.{Reading, reading_at, eats, lines_read, reading_of, text_ends}
 use Rattle.dimacs_tokens.proofs.ReadingSteps.{reading_append}
-use Rattle.fault_io.specs.Bytes.{Consumes, IsAtEnd, Keeps}
-use Rattle.fault_io.specs.Faults.{Rose}
-use Rattle.fault_io.proofs.Consumes.{Consumes-nil, Consumes-more, Consumes-Keeps}
+use Rattle.std.specs.Result.{IsErrAnd}
+use Rattle.std.specs.declared.alloc.AllocError.{AllocError}
+use Rattle.fault_io.specs.Bytes.{Consumes, IsAtEnd}
+use Rattle.fault_io.specs.Sources.{SourceView, GivesBytes, SourceFails}
+use Rattle.fault_io.proofs.Consumes.{Consumes-Keeps}
+use Rattle.fault_io.proofs.Giving.{gives_nothing, gives_more}
+use Rattle.fault_io.proofs.Taking.{rose_behind}
 use Rattle.dimacs_front.specs.declared.refused.TextRefused.{TextRefused}
 use Rattle.dimacs_front.specs.declared.refused.ReadRefused.{ReadRefused}
 use Rattle.dimacs_front.specs.declared.refused.ReadRefused.TheVariants.{Text, ReadFault, OutOfMemory}
@@ -15,13 +19,13 @@ use Rattle.dimacs_front.specs.declared.input.Input.{Input}
 use Rattle.dimacs_front.specs.Limits.{most_bytes, piece_size}
 use Rattle.dimacs_front.specs.Whole.{TextView, text_at_start, eat_token, close_line, answer, long_by, long_answer, reads, stops}
 use Rattle.dimacs_front.specs.Pieces.{Gives, behind, IsStopped, IsBeyond, FeedsOn}
-use Rattle.dimacs_front.specs.Answers.{IsTooMuch, IsRefused, SaysOf, IsAskedFor, ReadsText, TellsText}
+use Rattle.dimacs_front.specs.Answers.{IsTooMuch, IsRefused, SaysOf, CountsFaults, IsAskedFor, ReadsText, TellsText}
 use Rattle.dimacs_front.proofs.Stopping.{text_behind, lines_behind, stops_behind, stops_stay, reads-short, reads-longer, reads-beyond, reads-stopped}
 
 -- the reader stands behind the bytes taken, and no complete line of them is refused
-pub record TookText (old new : Option (List ℕ)) (reader : Reading TextView) (count : ℕ) : Type 0 where
+pub record TookText (old new : SourceView) (reader : Reading TextView) (count : ℕ) : Type 0 where
   pub bytes : List ℕ
-  pub consumed : Consumes old new bytes
+  pub given : GivesBytes old new bytes
   pub read : reader ≡ text_behind bytes
   pub counted : length bytes ≡ count
   pub going : stops bytes ≡ None
@@ -30,11 +34,11 @@ behind_nothing : text_behind [] ≡ reading_at text_at_start (seen []) false
 unfolding reading_of lines_read cut_lines cut_tokens eats
 behind_nothing = refl
 
-pub text_begun : (a : Option (List ℕ)) (r : Reading TextView) →
+pub text_begun : (a : SourceView) (r : Reading TextView) →
     r ≡ reading_at text_at_start (seen []) false → TookText a a r 0
 text_begun a r e = record {
   bytes = [];
-  consumed = Consumes-nil a;
+  given = gives_nothing a;
   read = e ∙ sym behind_nothing;
   counted = refl;
   going = sym (stops_behind []) ∙ ap (λ (r : Reading TextView). r.state.stopped) behind_nothing;
@@ -46,7 +50,7 @@ behind_more bs piece r e =
     ap (λ x. behind x piece) e ∙ sym (reading_append eat_token close_line text_at_start bs piece)
 
 -- a piece was asked for
-piece_asked : (old now : Option (List ℕ)) (r : Reading TextView) (n : ℕ) (piece : List ℕ)
+piece_asked : (old now : SourceView) (r : Reading TextView) (n : ℕ) (piece : List ℕ)
     (t : TookText old now r n) → n ≤ most_bytes → length piece ≤ piece_size →
     IsAskedFor (TookText.bytes t ++ piece)
 piece_asked old now r n piece t within small = record {
@@ -58,76 +62,100 @@ piece_asked old now r n piece t within small = record {
   going = t.going;
 }
 
-no_piece_asked : (old now : Option (List ℕ)) (r : Reading TextView) (n : ℕ)
+no_piece_asked : (old now : SourceView) (r : Reading TextView) (n : ℕ)
     (t : TookText old now r n) → n ≤ most_bytes → IsAskedFor (TookText.bytes t ++ [])
 no_piece_asked old now r n t within = piece_asked old now r n [] t within (omega arith)
 
 -- before the first byte
 pub nothing_asked : IsAskedFor []
 unfolding text_begun
-nothing_asked = no_piece_asked None None (text_behind []) 0 (text_begun None (text_behind []) behind_nothing) (omega arith)
+nothing_asked =
+    let a : SourceView = record { left = None; faults = 0 } in
+    no_piece_asked a a (text_behind []) 0 (text_begun a (text_behind []) behind_nothing) (omega arith)
 
-pub nothing_taken : (a : Option (List ℕ)) (before after : ℕ) (result : Result Input ReadRefused) →
-    SaysOf a before after [] result → ReadsText a a before after result
-nothing_taken a before after result says =
-    record { bytes = []; consumed = Consumes-nil a; asked = nothing_asked; says = says }
+pub nothing_taken : (a : SourceView) (result : Result Input ReadRefused) →
+    SaysOf a.left [] result → CountsFaults a.faults a.faults result → ReadsText a a result
+nothing_taken a result says counted = record {
+  bytes = [];
+  consumed = (gives_nothing a).consumed;
+  asked = nothing_asked;
+  says = says;
+  counted = counted;
+}
 
-pub text_more : (old now new : Option (List ℕ)) (r s : Reading TextView) (n k : ℕ)
-    (piece : List ℕ) → TookText old now r n → Consumes now new piece → s ≡ behind r piece →
-    k ≡ n + length piece → s.state.stopped ≡ None → TookText old new s k
+pub nothing_read : (a : SourceView) (error : AllocError) (result : Result Input ReadRefused) →
+    IsErrAnd result (λ e. e ≡ OutOfMemory error) → ReadsText a a result
+nothing_read a error (Ok input) wanting = absurd wanting
+nothing_read a error (Err failed) wanting =
+    subst (λ (e : ReadRefused). ReadsText a a (Err e)) (sym wanting)
+    (nothing_taken a (Err (OutOfMemory error)) tt refl)
+
+pub text_more : (old now new : SourceView) (r s : Reading TextView) (n k : ℕ) (piece : List ℕ) →
+    TookText old now r n → GivesBytes now new piece → s ≡ behind r piece → k ≡ n + length piece →
+    s.state.stopped ≡ None → TookText old new s k
 text_more old now new r s n k piece t c e f going =
     let read : s ≡ text_behind (t.bytes ++ piece) = e ∙ behind_more t.bytes piece r t.read in
     record {
       bytes = t.bytes ++ piece;
-      consumed = Consumes-more old now new t.bytes piece t.consumed c;
+      given = gives_more old now new t.bytes piece t.given c;
       read = read;
       counted = length-append t.bytes piece ∙ ap (λ m. m + length piece) t.counted ∙ sym f;
-      going = sym (stops_behind (t.bytes ++ piece)) ∙ ap (λ (x : Reading TextView). x.state.stopped) (sym read) ∙ going;
+      going = sym (stops_behind (t.bytes ++ piece))
+          ∙ ap (λ (x : Reading TextView). x.state.stopped) (sym read)
+          ∙ going;
     }
 
 -- the source failed
-pub text_fault : (old now new : Option (List ℕ)) (before after : ℕ) (r : Reading TextView)
-    (n line : ℕ) → TookText old now r n → n ≤ most_bytes → Keeps now new → Rose before after → line ≡ r.state.lines →
-    ReadsText old new before after (Err (ReadFault (line + 1)))
-text_fault old now new before after r n line t within k rose e = record {
+pub text_fault : (old now new : SourceView) (r : Reading TextView) (n line : ℕ) →
+    TookText old now r n → n ≤ most_bytes → SourceFails now new → line ≡ r.state.lines →
+    ReadsText old new (Err (ReadFault (line + 1)))
+text_fault old now new r n line t within fails e = record {
   bytes = t.bytes;
-  consumed = Consumes-Keeps old now new t.bytes t.consumed k;
+  consumed = Consumes-Keeps old.left now.left new.left t.bytes t.given.consumed fails.kept;
   asked = subst IsAskedFor (append-nil t.bytes) (no_piece_asked old now r n t within);
   says = record {
-    rose = rose;
     going = t.going;
     open_line = ap (λ x. x + 1) (e ∙ ap (λ (x : Reading TextView). x.state.lines) t.read ∙ lines_behind t.bytes);
   };
+  counted = rose_behind old.faults now.faults new.faults t.given.stands fails.rose;
 }
 
-gives_says : (new : Option (List ℕ)) (before after : ℕ) (bs : List ℕ) (r : Reading TextView)
+gives_says : (left : Option (List ℕ)) (bs : List ℕ) (r : Reading TextView)
     (result : Result Input ReadRefused) → r ≡ text_behind bs → length bs ≤ most_bytes →
-    IsAtEnd new → Gives (answer (text_ends eat_token close_line r)) result →
-    SaysOf new before after bs result
-gives_says new before after bs r (Ok input) e h at_end j = record {
+    IsAtEnd left → Gives (answer (text_ends eat_token close_line r)) result → SaysOf left bs result
+gives_says left bs r (Ok input) e h at_end j = record {
   at_end = at_end;
   says = reads-short bs h ∙ ap (λ x. answer (text_ends eat_token close_line x)) (sym e) ∙ j;
 }
-gives_says new before after bs r (Err (Text x)) e h at_end j = record {
+gives_says left bs r (Err (Text x)) e h at_end j = record {
   found = inl at_end;
   says = reads-short bs h ∙ ap (λ x. answer (text_ends eat_token close_line x)) (sym e) ∙ j;
 }
-gives_says new before after bs r (Err (ReadFault line)) e h at_end j = absurd j
-gives_says new before after bs r (Err (OutOfMemory error)) e h at_end j = tt
+gives_says left bs r (Err (ReadFault line)) e h at_end j = absurd j
+gives_says left bs r (Err (OutOfMemory error)) e h at_end j = tt
+
+-- no answer of the reader itself is a read fault
+gives_counted : (before now : ℕ) (o : Result Input TextRefused) (result : Result Input ReadRefused) →
+    now ≡ before → Gives o result → CountsFaults before now result
+gives_counted before now o (Ok input) stands j = stands
+gives_counted before now o (Err (Text x)) stands j = stands
+gives_counted before now o (Err (ReadFault line)) stands j = absurd j
+gives_counted before now o (Err (OutOfMemory error)) stands j = stands
 
 -- the source is at its end: it gave no byte
-pub text_end : (old now new : Option (List ℕ)) (before after : ℕ) (r : Reading TextView) (n m : ℕ)
-    (buf : List ℕ) (result : Result Input ReadRefused) → TookText old now r n → n ≤ most_bytes →
-    m ≡ 0 → 0 < length buf →
-    Consumes now new (take m buf) × (m ≡ 0 → 0 < length buf → IsAtEnd new) →
-    Gives (answer (text_ends eat_token close_line r)) result → ReadsText old new before after result
-text_end old now new before after r n m buf result t within e room h j =
-    let none : Consumes now new [] = subst (λ (k : ℕ). Consumes now new (take k buf)) e h.0 in
+pub text_end : (old now new : SourceView) (r : Reading TextView) (n m : ℕ) (buf : List ℕ)
+    (result : Result Input ReadRefused) → TookText old now r n → n ≤ most_bytes → m ≡ 0 →
+    GivesBytes now new (take m buf) × (m ≡ 0 → IsAtEnd new.left) →
+    Gives (answer (text_ends eat_token close_line r)) result → ReadsText old new result
+text_end old now new r n m buf result t within e h j =
+    let none : GivesBytes now new [] = subst (λ (k : ℕ). GivesBytes now new (take k buf)) e h.0 in
+    let given = gives_more old now new t.bytes [] t.given none in
     record {
       bytes = t.bytes ++ [];
-      consumed = Consumes-more old now new t.bytes [] t.consumed none;
+      consumed = given.consumed;
       asked = no_piece_asked old now r n t within;
-      says = gives_says new before after (t.bytes ++ []) r result (t.read ∙ ap text_behind (sym (append-nil t.bytes))) (omega (arith, t.counted, ap length (append-nil t.bytes))) (h.1 e room) j;
+      says = gives_says new.left (t.bytes ++ []) r result (t.read ∙ ap text_behind (sym (append-nil t.bytes))) (omega (arith, t.counted, ap length (append-nil t.bytes))) (h.1 e) j;
+      counted = gives_counted old.faults new.faults (answer (text_ends eat_token close_line r)) result given.stands j;
     }
 
 -- the refusal of a text that is too long
@@ -176,23 +204,31 @@ beyond_says new bs piece n r x e counted within s =
           ∙ ap Err s.judged;
     }
 
-pub text_refused : (old now new : Option (List ℕ)) (before after : ℕ) (r s : Reading TextView)
-    (n : ℕ) (piece : List ℕ) (failed : ReadRefused) → TookText old now r n → n ≤ most_bytes →
-    length piece ≤ piece_size → Consumes now new piece → FeedsOn r n piece s (Err failed) →
-    ReadsText old new before after (Err failed)
-text_refused old now new before after r s n piece (Text x) t within small c h = record {
-  bytes = t.bytes ++ piece;
-  consumed = Consumes-more old now new t.bytes piece t.consumed c;
-  asked = piece_asked old now r n piece t within small;
-  says = ⊎_elim (stopped_says new t.bytes piece n r x t.read t.counted) (beyond_says new t.bytes piece n r x t.read t.counted within) h;
-}
-text_refused old now new before after r s n piece (ReadFault line) t within small c h = absurd h
-text_refused old now new before after r s n piece (OutOfMemory error) t within small c h = record {
-  bytes = t.bytes ++ piece;
-  consumed = Consumes-more old now new t.bytes piece t.consumed c;
-  asked = piece_asked old now r n piece t within small;
-  says = tt;
-}
+pub text_refused : (old now new : SourceView) (r s : Reading TextView) (n : ℕ) (piece : List ℕ)
+    (failed : ReadRefused) → TookText old now r n → n ≤ most_bytes → length piece ≤ piece_size →
+    GivesBytes now new piece → FeedsOn r n piece s (Err failed) → ReadsText old new (Err failed)
+text_refused old now new r s n piece (Text x) t within small c h =
+    let given = gives_more old now new t.bytes piece t.given c in
+    record {
+      bytes = t.bytes ++ piece;
+      consumed = given.consumed;
+      asked = piece_asked old now r n piece t within small;
+      says = ⊎_elim
+          (stopped_says new.left t.bytes piece n r x t.read t.counted)
+          (beyond_says new.left t.bytes piece n r x t.read t.counted within)
+          h;
+      counted = given.stands;
+    }
+text_refused old now new r s n piece (ReadFault line) t within small c h = absurd h
+text_refused old now new r s n piece (OutOfMemory error) t within small c h =
+    let given = gives_more old now new t.bytes piece t.given c in
+    record {
+      bytes = t.bytes ++ piece;
+      consumed = given.consumed;
+      asked = piece_asked old now r n piece t within small;
+      says = tt;
+      counted = given.stands;
+    }
 
 -- all the bytes were taken
 all_bytes : (xs bs ys : List ℕ) → xs ≡ bs ++ ys → ys ≡ [] → xs ≡ bs
@@ -214,12 +250,16 @@ refused_told xs bs ys x e r =
     ]
 
 -- the answer for the bytes taken is right for all the bytes that the source had
-pub text_told : (old new : Option (List ℕ)) (before after : ℕ) (result : Result Input ReadRefused) →
-    ReadsText old new before after result → TellsText old result
-text_told None new before after result r = tt
-text_told (Some xs) None before after result r = absurd r.consumed
-text_told (Some xs) (Some ys) before after (Ok input) r =
-    ap reads (all_bytes xs r.bytes ys r.consumed r.says.at_end) ∙ r.says.says
-text_told (Some xs) (Some ys) before after (Err (Text x)) r = refused_told xs r.bytes ys x r.consumed r.says
-text_told (Some xs) (Some ys) before after (Err (ReadFault line)) r = tt
-text_told (Some xs) (Some ys) before after (Err (OutOfMemory error)) r = tt
+told_at : (left now : Option (List ℕ)) (bs : List ℕ) (result : Result Input ReadRefused) →
+    Consumes left now bs → SaysOf now bs result → TellsText left result
+told_at None now bs result c says = tt
+told_at (Some xs) None bs result c says = absurd c
+told_at (Some xs) (Some ys) bs (Ok input) c says =
+    ap reads (all_bytes xs bs ys c says.at_end) ∙ says.says
+told_at (Some xs) (Some ys) bs (Err (Text x)) c says = refused_told xs bs ys x c says
+told_at (Some xs) (Some ys) bs (Err (ReadFault line)) c says = tt
+told_at (Some xs) (Some ys) bs (Err (OutOfMemory error)) c says = tt
+
+pub text_told : (old new : SourceView) (result : Result Input ReadRefused) →
+    ReadsText old new result → TellsText old.left result
+text_told old new result r = told_at old.left new.left r.bytes result r.consumed r.says

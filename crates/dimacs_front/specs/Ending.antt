@@ -1,5 +1,7 @@
--- What a text says at its end, where no line of it is refused. Here n is the number of the last line.
+-- What a text says at its end, where no line of it is refused. Here n is the number of the last
+-- line.
 use Rattle.std.specs.Prelude.{ℕ, Bool, not, cond, ◌==◌, ◌||◌, nat_le, List, [], ◌∷◌, length, Option, Some, None, Result, Ok, Err}
+use Rattle.std.specs.Prelude.{option_map}
 use Rattle.std.specs.List.{filter, range_with_len}
 use Rattle.dimacs_tokens.specs.Seen.{is_nil}
 use Rattle.dimacs_front.specs.declared.refused.TextRefused.{TextRefused}
@@ -15,8 +17,7 @@ first_above v [] = None
 first_above v (m ∷ ms) = cond (nat_le m.variable v) (first_above v ms) (Some m.line)
 
 abbrev pub range_refusal : Option ℕ → Option TextRefused
-range_refusal None = None
-range_refusal (Some line) = Some (ShowBad line)
+range_refusal line = option_map ShowBad line
 
 -- the first refusal of the end, but for too many shown variables
 unfoldable pub end_refusal : ℕ → StateView → Option TextRefused
@@ -42,7 +43,10 @@ few vs = cond (nat_le (length vs) most_shown) (Some vs) None
 
 abbrev pub input_of : WrittenView → List ℕ → Input
 input_of w vs = record {
-  subject = record { formula = record { variables = w.variables; clauses = w.clauses }; shown = vs };
+  subject = record {
+    formula = record { variables = w.variables; clauses = w.clauses };
+    shown = vs;
+  };
 }
 
 abbrev pub with_shown : ℕ → WrittenView → Option (List ℕ) → Result Input TextRefused

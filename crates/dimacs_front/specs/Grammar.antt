@@ -1,4 +1,5 @@
--- What a token says in a text, and what the end of a line does. Here n is the line's number, counted from 1.
+-- What a token says in a text, and what the end of a line does. Here n is the line's number,
+-- counted from 1.
 use Rattle.std.specs.Prelude.{ℕ, Bool, true, false, cond, ◌==◌, nat_le, nat_lt, List, [], ◌∷◌, ◌++◌, length, ◌+◌, ℤ, nat_abs, Option, Some, None}
 use Rattle.std.specs.List.{list_any}
 use Rattle.dimacs_tokens.specs.Numbers.{value_of}
@@ -6,14 +7,13 @@ use Rattle.dimacs_tokens.specs.Seen.{SeenView, begins_with}
 use Rattle.dimacs_front.specs.declared.refused.TextRefused.{TextRefused}
 use Rattle.dimacs_front.specs.declared.refused.TextRefused.TheVariants.{BadHeader, HeaderTwice, BadNumber, VariableTooLarge, ShowBad, ShowUnended, TooManyVariables, TooManyClauses, TooManyLiterals}
 use Rattle.dimacs_front.specs.declared.line_place.LinePlace.{LinePlace}
-use Rattle.dimacs_front.specs.declared.line_place.LinePlace.TheVariants.{Beginning, HeaderWord, HeaderVariables, HeaderClauses, HeaderEnd, Clauses, Comment, CommentParted, CommentNamed, Show, ShowEnd, Passed, Over, Refused}
+use Rattle.dimacs_front.specs.declared.line_place.LinePlace.TheVariants.{Beginning, HeaderWord, HeaderVariables, HeaderClauses, HeaderEnd, Clauses, Show, ShowEnd, Over, Refused}
 use Rattle.dimacs_front.specs.declared.shown.Named.{Named}
-use Rattle.dimacs_front.specs.LinePlaces.{natural}
 use Rattle.dimacs_front.specs.Limits.{most_variables, most_clauses, most_literals}
-use Rattle.dimacs_front.specs.LinePlaces.{header_begun, comment_begun, place_after}
+use Rattle.dimacs_front.specs.LinePlaces.{comment_byte, header_byte, percent, natural, header_begun, comment_begun, place_after}
 
--- what the header and the clauses say: the numbers of variables and of clauses by the header, the clauses
--- that are ended, the literals behind them, and how many literals there are in all
+-- what the header and the clauses say: the numbers of variables and of clauses by the header, the
+-- clauses that are ended, the literals behind them, and how many literals there are in all
 pub record WrittenView : Type 0 where
   pub variables : ℕ
   pub said : ℕ
@@ -23,26 +23,16 @@ pub record WrittenView : Type 0 where
 
 -- below the header
 abbrev pub nothing_written : ℕ → ℕ → WrittenView
-nothing_written v c = record { variables = v; said = c; clauses = []; open_clause = []; literals = 0 }
+nothing_written v c =
+    record { variables = v; said = c; clauses = []; open_clause = []; literals = 0 }
 
 -- the clause is ended, and its next literal
 abbrev pub clause_ended : WrittenView → WrittenView
-clause_ended w = record {
-  variables = w.variables;
-  said = w.said;
-  clauses = w.clauses ++ w.open_clause ∷ [];
-  open_clause = [];
-  literals = w.literals;
-}
+clause_ended w = record w { clauses = w.clauses ++ w.open_clause ∷ []; open_clause = [] }
 
 abbrev pub literal_added : WrittenView → ℤ → WrittenView
-literal_added w l = record {
-  variables = w.variables;
-  said = w.said;
-  clauses = w.clauses;
-  open_clause = w.open_clause ++ l ∷ [];
-  literals = w.literals + 1;
-}
+literal_added w l =
+    record w { open_clause = w.open_clause ++ l ∷ []; literals = w.literals + 1 }
 
 -- whether a show line names the variable
 abbrev pub is_named : List Named → ℕ → Bool
@@ -52,8 +42,8 @@ is_named ms v = list_any (λ m. m.variable == v) ms
 abbrev pub name_once : List Named → Named → List Named
 name_once ms m = cond (is_named ms m.variable) ms (ms ++ m ∷ [])
 
--- the place in the line, whether there was a header, the formula below it, whether a show line was ended,
--- and the variables of all show lines, each with the first line that names it
+-- the place in the line, whether there was a header, the formula below it, whether a show line was
+-- ended, and the variables of all show lines, each with the first line that names it
 pub record StateView : Type 0 where
   pub place : LinePlace
   pub started : Bool
@@ -72,16 +62,14 @@ nothing_said_yet = record {
 
 -- the state at another place
 abbrev pub at_place : StateView → LinePlace → StateView
-at_place s p =
-    record { place = p; started = s.started; formula = s.formula; given = s.given; named = s.named }
+at_place s p = record s { place = p }
 
 abbrev pub refuse : StateView → TextRefused → StateView
 refuse s r = at_place s (Refused r)
 
 -- the state among the clauses, with this formula
 abbrev pub in_clauses : StateView → WrittenView → StateView
-in_clauses s w =
-    record { place = Clauses; started = s.started; formula = w; given = s.given; named = s.named }
+in_clauses s w = record s { place = Clauses; formula = w }
 
 -- a token of a clause: 0 ends the clause, and any other number is its next literal
 abbrev pub zero_eaten : ℕ → StateView → StateView
@@ -104,22 +92,11 @@ number_eaten n s (Some l) = cond (nat_abs l == 0) (zero_eaten n s) (literal_eate
 
 -- a token of a show line: variables, and a 0 that ends them
 abbrev pub show_ended : StateView → StateView
-show_ended s = record {
-  place = ShowEnd;
-  started = s.started;
-  formula = s.formula;
-  given = true;
-  named = s.named;
-}
+show_ended s = record s { place = ShowEnd; given = true }
 
 abbrev pub variable_named : ℕ → StateView → ℕ → StateView
-variable_named n s v = record {
-  place = s.place;
-  started = s.started;
-  formula = s.formula;
-  given = s.given;
-  named = name_once s.named (record { variable = v; line = n });
-}
+variable_named n s v =
+    record s { named = name_once s.named (record { variable = v; line = n }) }
 
 abbrev pub shown_eaten : ℕ → StateView → Option ℕ → StateView
 shown_eaten n s None = refuse s (ShowBad n)
@@ -128,17 +105,17 @@ shown_eaten n s (Some v) =
     (show_ended s)
     (cond (nat_le v most_variables) (variable_named n s v) (refuse s (ShowBad n)))
 
--- the first token of a line below the header: `p` (112) begins a second header, and `%` (37) ends the formula
+-- the first token of a line below the header: `p` begins a second header, and `%` ends the formula
 abbrev pub below_begun : ℕ → StateView → SeenView → StateView
 below_begun n s t =
-    cond (begins_with t 112)
+    cond (begins_with t header_byte)
     (refuse s (HeaderTwice n))
-    (cond (begins_with t 37) (at_place s Over) (number_eaten n s (value_of t.number)))
+    (cond (begins_with t percent) (at_place s Over) (number_eaten n s (value_of t.number)))
 
--- the first token of a line: `c` (99) begins a comment
+-- the first token of a line: `c` begins a comment
 abbrev pub line_begun : ℕ → StateView → SeenView → StateView
 line_begun n s t =
-    cond (begins_with t 99)
+    cond (begins_with t comment_byte)
     (at_place s (comment_begun t))
     (cond s.started (below_begun n s t) (at_place s (header_begun n t)))
 
@@ -154,13 +131,8 @@ eaten n s t = eaten_at s.place n s t
 
 -- the state below a header with these numbers
 abbrev pub below_header : StateView → ℕ → ℕ → StateView
-below_header s v c = record {
-  place = Beginning;
-  started = true;
-  formula = nothing_written v c;
-  given = s.given;
-  named = s.named;
-}
+below_header s v c =
+    record s { place = Beginning; started = true; formula = nothing_written v c }
 
 -- the header's line ends
 abbrev pub header_ended : ℕ → StateView → ℕ → ℕ → StateView
@@ -173,20 +145,13 @@ header_ended n s v c =
 
 -- the place behind the end of any other line
 abbrev pub place_closed : LinePlace → ℕ → LinePlace
-place_closed Beginning n = Beginning
 place_closed HeaderWord n = Refused (BadHeader n)
 place_closed HeaderVariables n = Refused (BadHeader n)
 place_closed (HeaderClauses v) n = Refused (BadHeader n)
-place_closed (HeaderEnd v c) n = Beginning
-place_closed Clauses n = Beginning
-place_closed Comment n = Beginning
-place_closed CommentParted n = Beginning
-place_closed CommentNamed n = Beginning
 place_closed Show n = Refused (ShowUnended n)
-place_closed ShowEnd n = Beginning
-place_closed Passed n = Beginning
 place_closed Over n = Over
 place_closed (Refused r) n = Refused r
+place_closed p n = Beginning
 
 abbrev pub closed_at : LinePlace → ℕ → StateView → StateView
 closed_at (HeaderEnd v c) n s = header_ended n s v c

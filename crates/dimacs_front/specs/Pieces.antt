@@ -20,7 +20,8 @@ abbrev pub behind : Reading TextView → List ℕ → Reading TextView
 behind old piece = fold (read_byte eat_token close_line) old piece
 
 -- the piece is fed, n bytes are within the limit, and no complete line is refused
-pub record IsFedOn (old : Reading TextView) (count : ℕ) (piece : List ℕ) (new : Reading TextView) (n : ℕ) : Type 0 where
+pub record IsFedOn (old : Reading TextView) (count : ℕ) (piece : List ℕ)
+    (new : Reading TextView) (n : ℕ) : Type 0 where
   pub steps : new ≡ behind old piece
   pub counted : n ≡ count + length piece
   pub within : n ≤ most_bytes
@@ -28,17 +29,21 @@ pub record IsFedOn (old : Reading TextView) (count : ℕ) (piece : List ℕ) (ne
   pub going : new.state.stopped ≡ None
 
 -- the piece ends within the limit, and a complete line is refused
-pub record IsStopped (old : Reading TextView) (count : ℕ) (piece : List ℕ) (r : TextRefused) : Type 0 where
+pub record IsStopped (old : Reading TextView) (count : ℕ) (piece : List ℕ) (r : TextRefused) :
+    Type 0 where
   pub within : count + length piece ≤ most_bytes
   pub stopped : (behind old piece).state.stopped ≡ Some r
 
 -- the piece goes beyond the limit
-pub record IsBeyond (old : Reading TextView) (count : ℕ) (piece : List ℕ) (r : TextRefused) : Type 0 where
+pub record IsBeyond (old : Reading TextView) (count : ℕ) (piece : List ℕ) (r : TextRefused) :
+    Type 0 where
   pub beyond : most_bytes < count + length piece
   pub judged : long_answer (behind old (take (most_bytes - count) piece)).state ≡ r
 
-abbrev pub FeedsOn : Reading TextView → ℕ → List ℕ → Reading TextView → Result ℕ ReadRefused → Type 0
+abbrev pub FeedsOn : Reading TextView → ℕ → List ℕ → Reading TextView → Result ℕ ReadRefused →
+    Type 0
 FeedsOn old count piece new (Ok n) = IsFedOn old count piece new n
-FeedsOn old count piece new (Err (Text r)) = IsStopped old count piece r ⊎ IsBeyond old count piece r
+FeedsOn old count piece new (Err (Text r)) =
+    IsStopped old count piece r ⊎ IsBeyond old count piece r
 FeedsOn old count piece new (Err (ReadFault line)) = ⊥
 FeedsOn old count piece new (Err (OutOfMemory e)) = Unit {0}

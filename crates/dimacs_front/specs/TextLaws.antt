@@ -8,7 +8,7 @@ use Rattle.dimacs_front.specs.declared.refused.TextRefused.{TextRefused}
 use Rattle.dimacs_front.specs.declared.refused.TextRefused.TheVariants.{BadHeader}
 use Rattle.dimacs_front.specs.declared.line_place.LinePlace.TheVariants.{Beginning, Over, Refused}
 use Rattle.dimacs_front.specs.declared.shown.Named.{Named}
-use Rattle.dimacs_front.specs.LinePlaces.{natural}
+use Rattle.dimacs_front.specs.LinePlaces.{comment_byte, header_byte, percent, natural}
 use Rattle.dimacs_front.specs.Limits.{most_variables, most_clauses, most_literals}
 use Rattle.dimacs_front.specs.Grammar.{WrittenView, clause_ended, literal_added, StateView, is_named, name_once, refuse, eaten, header_ended, closed}
 use Rattle.dimacs_front.specs.Whole.{text_after}
@@ -48,11 +48,12 @@ abbrev pub beginning : Bool → WrittenView → Bool → List Named → StateVie
 beginning started w given named =
     record { place = Beginning; started = started; formula = w; given = given; named = named }
 
--- a line above the header whose first byte is `p` (112) has just the four tokens of a header, or is refused
+-- a line above the header whose first byte is `p` has just the four tokens of a header, or is
+-- refused
 abbrev pub AHeaderHasFourTokens : Type 0
 AHeaderHasFourTokens =
-    (n : ℕ) (w : WrittenView) (given : Bool) (named : List Named) (t : List ℕ) (ts : List (List ℕ)) →
-    begins_with (seen t) 112 ≡ true →
+    (n : ℕ) (w : WrittenView) (given : Bool) (named : List Named) (t : List ℕ)
+    (ts : List (List ℕ)) → begins_with (seen t) header_byte ≡ true →
     line_said n (beginning false w given named) (t ∷ ts) ≡
     header_said n (beginning false w given named) (header_numbers (t ∷ ts))
 
@@ -67,8 +68,8 @@ named_in n v = record { variable = v; line = n }
 abbrev pub names_behind : ℕ → List Named → List ℕ → List Named
 names_behind n named vs = fold name_once named (map (named_in n) vs)
 
--- a show line of tokens with these values, which a 0 ends, names just these variables, above the header
--- and below
+-- a show line of tokens with these values, which a 0 ends, names just these variables, above the
+-- header and below
 abbrev pub AShowLineNamesItsVariables : Type 0
 AShowLineNamesItsVariables =
     (n : ℕ) (started : Bool) (w : WrittenView) (given : Bool) (named : List Named) →
@@ -76,7 +77,8 @@ AShowLineNamesItsVariables =
     map (λ t. natural (token_value t)) ts ≡ map (λ v. Some v) vs →
     All IsVariable vs →
     natural (token_value z) ≡ Some 0 →
-    line_said n (beginning started w given named) (codes "c" ∷ codes "p" ∷ codes "show" ∷ ts ++ z ∷ []) ≡
+    line_said n (beginning started w given named)
+    (codes "c" ∷ codes "p" ∷ codes "show" ∷ ts ++ z ∷ []) ≡
     beginning started w true (names_behind n named vs)
 
 -- behind it a variable is named just if it was named before, or is one of these
@@ -122,7 +124,8 @@ TheFirstRefusedTokenCounts =
     (n : ℕ) (s : StateView) (ts us : List (List ℕ)) (r : TextRefused) →
     (tokens_said n s ts).place ≡ Refused r → line_said n s (ts ++ us) ≡ tokens_said n s ts
 
--- the words of the comment lines that are read: `c p show`, and in line 1 `c allsat saved` and `c allsat met`
+-- the words of the comment lines that are read: `c p show`, and in line 1 `c allsat saved` and
+-- `c allsat met`
 unfoldable pub is_read : ℕ → List (List ℕ) → Bool
 is_read n (c ∷ kind ∷ word ∷ ts) =
     bytes_eq c (codes "c")
@@ -131,11 +134,11 @@ is_read n (c ∷ kind ∷ word ∷ ts) =
     && (bytes_eq word (codes "saved") || bytes_eq word (codes "met"))))
 is_read n _ = false
 
--- each other line whose first byte is `c` (99) changes nothing, above the header and below
+-- each other line whose first byte is `c` changes nothing, above the header and below
 abbrev pub ACommentChangesNothing : Type 0
 ACommentChangesNothing =
     (n : ℕ) (started : Bool) (w : WrittenView) (given : Bool) (named : List Named) (t : List ℕ)
-    (ts : List (List ℕ)) → begins_with (seen t) 99 ≡ true → is_read n (t ∷ ts) ≡ false →
+    (ts : List (List ℕ)) → begins_with (seen t) comment_byte ≡ true → is_read n (t ∷ ts) ≡ false →
     line_said n (beginning started w given named) (t ∷ ts) ≡ beginning started w given named
 
 -- the formula is over
@@ -143,10 +146,11 @@ abbrev pub over : WrittenView → Bool → List Named → StateView
 over w given named =
     record { place = Over; started = true; formula = w; given = given; named = named }
 
--- it is so from a line below the header whose first byte is `%` (37); no line behind that changes anything
+-- it is so from a line below the header whose first byte is `%`; no line behind that changes
+-- anything
 abbrev pub TheFormulaEndsAtAPercent : Type 0
 TheFormulaEndsAtAPercent =
     (n m : ℕ) (w : WrittenView) (given : Bool) (named : List Named) (t : List ℕ)
-    (ts us : List (List ℕ)) → begins_with (seen t) 37 ≡ true →
+    (ts us : List (List ℕ)) → begins_with (seen t) percent ≡ true →
     (line_said n (beginning true w given named) (t ∷ ts) ≡ over w given named)
     × (line_said m (over w given named) us ≡ over w given named)

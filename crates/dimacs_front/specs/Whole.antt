@@ -1,4 +1,5 @@
--- What a whole text says. `reads` is the input or the refusal, and `stops` the refusal of its lowest refused line.
+-- What a whole text says. `reads` is the input or the refusal, and `stops` the refusal of its
+-- lowest refused line.
 use Rattle.std.specs.Prelude.{ℕ, ◌+◌, cond, ◌==◌, nat_le, List, length, take, Option, Some, None, Result, Err}
 use Rattle.dimacs_tokens.specs.Cuts.{lines, complete}
 use Rattle.dimacs_tokens.specs.Seen.{SeenView}

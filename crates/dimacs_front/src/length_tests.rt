@@ -24,7 +24,7 @@ fn line_ends_up_to_the_limit_are_a_text_without_a_header(rt: HostRuntime) {
     );
 }
 
-// 10 bytes, and then 13 bytes whose last one counts.
+/// 10 bytes, and then 13 bytes whose last one counts.
 #[test]
 fn a_text_of_just_the_limit_is_read_to_its_last_byte(rt: HostRuntime) -> Result<(), Fail> {
     let alloc = rt.alloc();
@@ -36,7 +36,7 @@ fn a_text_of_just_the_limit_is_read_to_its_last_byte(rt: HostRuntime) -> Result<
     Ok(())
 }
 
-// The limit stands before the end of line 3, behind the byte that is no number.
+/// The limit stands before the end of line 3, behind the byte that is no number.
 #[test]
 fn a_line_that_goes_beyond_the_limit_is_not_judged(rt: HostRuntime) {
     let times = 1_073_741_824 - 11 - 2;
@@ -48,7 +48,7 @@ fn a_line_that_goes_beyond_the_limit_is_not_judged(rt: HostRuntime) {
     assert_eq!(rt; source.given(), 1_073_741_825);
 }
 
-// The limit stands behind the end of line 3.
+/// The limit stands behind the end of line 3.
 #[test]
 fn a_line_refused_within_the_limit_counts_in_a_longer_text(rt: HostRuntime) {
     let times = 1_073_741_824 - 11 - 3;

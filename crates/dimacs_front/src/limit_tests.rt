@@ -5,7 +5,7 @@ use crate::tests::{numbers, other, read};
 use std::alloc::{AllocError, Global};
 use std::test::Fail;
 
-// Reads a front, a piece so many times, and an end.
+/// Reads a front, a piece so many times, and an end.
 fn read_made(
     alloc: Global,
     front: &[u8],
@@ -17,7 +17,7 @@ fn read_made(
     read_subject(alloc, &mut source)
 }
 
-// How many clauses and literals there are.
+/// How many clauses and literals there are.
 fn counts(input: &Input) -> (usize, usize) {
     let clauses = input.subject.formula.clauses.as_slice();
     let mut literals: usize = 0;
@@ -27,7 +27,7 @@ fn counts(input: &Input) -> (usize, usize) {
     (clauses.len(), literals)
 }
 
-// Each variable up to this one, behind a space.
+/// Each variable up to this one, behind a space.
 fn names(alloc: Global, last: u32) -> Result<Vec<u8>, AllocError> {
     let mut text = Vec::new(alloc);
     for variable in 1..=last {
@@ -373,7 +373,8 @@ fn a_number_of_a_million_digits_is_judged_by_its_value(rt: HostRuntime) {
     }
 }
 
-// The first text's refused line has 1,000,002 bytes; behind the second's stand more bytes than can be read.
+/// The first text's refused line has 1,000,002 bytes; behind the second's stand more bytes than can
+/// be read.
 #[test]
 fn no_byte_is_taken_behind_the_piece_with_the_refused_line(rt: HostRuntime) {
     let mut source = MadeText::make(b"p cnf 1 0\nx", b" ", 1_000_000, b"\nc\n\n");

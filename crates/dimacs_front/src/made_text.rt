@@ -1,10 +1,11 @@
 //! For tests: a source that makes its text while it is read, so that no test stores a long one.
 ghost use Rattle.std.specs.Prelude.{None};
+ghost use Rattle.fault_io.specs.Sources.{SourceView};
 
 use fault_io::{Failed, Source};
 
-/// Gives a front, then a piece so many times, then an end, as much at a call as there is room for. It
-/// counts the bytes that it gave, and tells none.
+/// Gives a front, then a piece so many times, then an end, as much at a call as there is room for.
+/// It counts the bytes that it gave, and tells none.
 #[derive(Drop)]
 pub(crate) struct MadeText<'a> {
     open: &'a [u8],
@@ -36,7 +37,7 @@ impl<'a> MadeText<'a> {
         self.given
     }
 
-    // Opens the next piece, or else the end.
+    /// Opens the next piece, or else the end.
     fn open_next(&mut self) {
         if self.times > 0 {
             self.times -= 1;
@@ -47,7 +48,7 @@ impl<'a> MadeText<'a> {
         }
     }
 
-    // Takes the next byte, if there is one.
+    /// Takes the next byte, if there is one.
     fn next_byte(&mut self) -> Option<u8> {
         if self.open.is_empty() {
             self.open_next();
@@ -63,9 +64,7 @@ impl<'a> MadeText<'a> {
 }
 
 impl Source for MadeText<'_> {
-    ghost left = { λ _. None };
-
-    ghost faults = { λ _. 0 };
+    ghost shows = { λ _. record { left = None; faults = 0 } };
 
     fn take(&mut self, buf: &mut [u8]) -> Result<usize, Failed> {
         for at in 0..buf.len() {

@@ -8,25 +8,23 @@ use crate::{Input, MOST_BYTES, ReadRefused, TextRefused};
 use fault_io::Source;
 use std::alloc::{AllocError, Global};
 
+/// The most bytes that are taken from the source at once.
 const PIECE_SIZE: usize = 65_536;
 
-/// Reads a text from the source, up to its end, or up to the piece in which a line is refused or the text
-/// grows too long. Takes memory for the formula, for the variables of the show lines (each once, and a byte for
-/// each number up to the largest), and for one buffer, whatever the length of the lines and of the text.
+/// Reads a text from the source, up to its end, or up to the piece in which a line is refused or
+/// the text grows too long. Takes memory for the formula, for the variables of the show lines (each
+/// once, and a byte for each number up to the largest), and for one buffer, whatever the length of
+/// the lines and of the text.
 pub fn read_subject<S: Source>(alloc: Global, source: &mut S) -> Result<Input, ReadRefused>
-    ensures reads { ReadsText
-        (S.left source.old) (S.left source.new)
-        (S.faults source.old) (S.faults source.new) result }
+    ensures reads { ReadsText (S.shows source.old) (S.shows source.new) result }
 
     // What it is for all the bytes that the source had.
-    ensures told { TellsText (S.left source.old) result }
+    ensures told { TellsText (S.shows source.old).left result }
 
     ensures sizes { IfOk result IsWithinLimits }
 {
-    match zero_bytes(alloc, PIECE_SIZE) {
-        Ok(mut buffer) => read_pieces(alloc, source, &mut buffer),
-        Err(error) => Err(ReadRefused::OutOfMemory(error)),
-    }
+    let mut buffer = zero_bytes(alloc, PIECE_SIZE)?;
+    read_pieces(alloc, source, &mut buffer)
 }
 
 fn zero_bytes(alloc: Global, size: usize) -> Result<Vec<u8>, AllocError>
@@ -35,7 +33,7 @@ fn zero_bytes(alloc: Global, size: usize) -> Result<Vec<u8>, AllocError>
     vec![in alloc; 0u8; size]
 }
 
-// Reads a text piece by piece.
+/// Reads a text piece by piece.
 fn read_pieces<S: Source>(
     alloc: Global,
     source: &mut S,
@@ -43,11 +41,9 @@ fn read_pieces<S: Source>(
 ) -> Result<Input, ReadRefused>
     requires some { 0 < length buffer.old }
     requires small { length buffer.old ≤ PIECE_SIZE }
-    ensures { ReadsText
-        (S.left source.old) (S.left source.new)
-        (S.faults source.old) (S.faults source.new) result }
+    ensures { ReadsText (S.shows source.old) (S.shows source.new) result }
 {
-    let mut reader = TextReader::new(alloc);
+    let mut reader = TextReader::make(alloc);
     let mut count: usize = 0;
     loop {
         match source.take(buffer) {
@@ -61,7 +57,7 @@ fn read_pieces<S: Source>(
     }
 }
 
-// Feeds the next piece, as far as the text may go on, and counts its bytes.
+/// Feeds the next piece, as far as the text may go on, and counts its bytes.
 fn feed_next(reader: &mut TextReader, count: usize, piece: &[u8]) -> Result<usize, ReadRefused>
     requires within { count ≤ MOST_BYTES }
     requires lines { reader.old.state.lines ≤ count }
@@ -70,25 +66,21 @@ fn feed_next(reader: &mut TextReader, count: usize, piece: &[u8]) -> Result<usiz
     if piece.len() > MOST_BYTES - count {
         return feed_last(reader, count, piece);
     }
-    if let Err(error) = reader.feed(piece) {
-        return Err(ReadRefused::OutOfMemory(error));
-    }
+    reader.feed(piece)?;
     match reader.stopped() {
         Some(refusal) => Err(ReadRefused::Text(refusal)),
         None => Ok(count + piece.len()),
     }
 }
 
-// Feeds what the text may still have of a piece that goes beyond.
+/// Feeds what the text may still have of a piece that goes beyond.
 fn feed_last(reader: &mut TextReader, count: usize, piece: &[u8]) -> Result<usize, ReadRefused>
     requires within { count ≤ MOST_BYTES }
     requires lines { reader.old.state.lines ≤ count }
     requires beyond { MOST_BYTES - count < length piece.now }
     ensures { FeedsOn reader.old count piece.now reader.new result }
 {
-    if let Err(error) = reader.feed(&piece[..MOST_BYTES - count]) {
-        return Err(ReadRefused::OutOfMemory(error));
-    }
+    reader.feed(&piece[..MOST_BYTES - count])?;
     let refusal = match reader.stopped() {
         Some(refusal) => refusal,
         None => TextRefused::TextTooLong {

@@ -145,3 +145,14 @@ pub enum ReadRefused {
     #[error("out of memory")]
     OutOfMemory(AllocError),
 }
+
+impl From<AllocError> for ReadRefused {
+    ghost use Rattle.std.specs.Prelude.{◌≡◌};
+    ghost use Rattle.dimacs_front.specs.declared.refused.ReadRefused.TheVariants.{OutOfMemory};
+
+    ghost from_gives = { λ error refused. refused ≡ OutOfMemory error };
+
+    fn from(error: AllocError) -> ReadRefused {
+        ReadRefused::OutOfMemory(error)
+    }
+}

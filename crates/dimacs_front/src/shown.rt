@@ -15,8 +15,8 @@ pub struct Named {
     pub line: u64,
 }
 
-/// The variables of the show lines, each once, with the first line that names it, and beside them a mark for
-/// each number up to the largest, which says whether it is one of them.
+/// The variables of the show lines, each once, with the first line that names it, and beside them a
+/// mark for each number up to the largest, which says whether it is one of them.
 #[derive(Drop)]
 pub struct ShowLines {
     named: Vec<Named>,
@@ -37,7 +37,7 @@ impl Model for ShowLines {
 
 impl ShowLines {
     /// No show line. Takes no memory yet.
-    pub fn new(alloc: Global) -> Self
+    pub fn make(alloc: Global) -> Self
         ensures { result ≡ [] }
     {
         ShowLines {
@@ -46,9 +46,11 @@ impl ShowLines {
         }
     }
 
-    /// Keeps a variable that this line names, unless it was named before. Its cost is constant on average.
+    /// Keeps a variable that this line names, unless it was named before. Its cost is constant on
+    /// average.
     pub fn add(&mut self, variable: u32, line: u64) -> Result<(), AllocError>
-        ensures { OnOk result (self.new ≡ name_once self.old (record { variable = variable; line = line })) }
+        ensures { OnOk result
+            (self.new ≡ name_once self.old (record { variable = variable; line = line })) }
     {
         if self.names(variable) {
             return Ok(());
@@ -59,7 +61,7 @@ impl ShowLines {
         Ok(())
     }
 
-    // Whether a show line names the variable.
+    /// Whether a show line names the variable.
     fn names(&self, variable: u32) -> bool
         ensures { result ≡ is_named self.now variable }
     {
@@ -78,15 +80,15 @@ impl ShowLines {
         None
     }
 
-    // Whether the variable is shown: each is, where no show line was given.
+    /// Whether the variable is shown: each is, where no show line was given.
     fn shows(&self, given: bool, variable: u32) -> bool
         ensures { result ≡ or_named (not given) self.now variable }
     {
         !given || self.names(variable)
     }
 
-    /// The variables from 1 to this one that are shown, where they are not too many. All of them are shown
-    /// where no show line was given.
+    /// The variables from 1 to this one that are shown, where they are not too many. All of them
+    /// are shown where no show line was given.
     pub fn shown(
         &self,
         alloc: Global,
@@ -109,7 +111,7 @@ impl ShowLines {
     }
 }
 
-// Makes a mark for each number up to this one. The room at least doubles where it grows.
+/// Makes a mark for each number up to this one. The room at least doubles where it grows.
 fn reach(marks: &mut Vec<bool>, number: u32) -> Result<(), AllocError>
     ensures reached { OnOk result (number < vec_len marks.new) }
     ensures same { (v : ℕ) → get_or marks.new.items v false ≡ get_or marks.old.items v false }

@@ -3,7 +3,7 @@ use fault_io::{BytesIn, Failed, Source};
 use std::alloc::{AllocError, Global};
 use std::test::Fail;
 
-// A source that gives `step` bytes at a call.
+/// A source that gives `step` bytes at a call.
 fn source_of(
     alloc: Global,
     text: &[u8],
@@ -23,7 +23,7 @@ pub(crate) fn read(
     Ok(read_subject(alloc, &mut source))
 }
 
-// The literals of each clause, and a 0 behind each.
+/// The literals of each clause, and a 0 behind each.
 pub(crate) fn numbers(alloc: Global, input: &Input) -> Result<Vec<i32>, AllocError> {
     let mut numbers = Vec::new(alloc);
     for clause in input.subject.formula.clauses.as_slice() {
@@ -53,7 +53,8 @@ fn an_accepted_text_gives_its_formula_and_shown_variables(rt: HostRuntime) -> Re
             &[1, -2, 0, 2, 3, 0, -1, 0],
         ),
         (
-            b"c t pmc\np cnf 4 2\nc p show 1 2 0\n1 3 0\nc p weight 1 0.4 0\nc a comment between clauses\n-2 4 0\nc p show 2 0\n",
+            b"c t pmc\np cnf 4 2\nc p show 1 2 0\n1 3 0\nc p weight 1 0.4 0\n\
+                c a comment between clauses\n-2 4 0\nc p show 2 0\n",
             4,
             &[1, 2],
             &[1, 3, 0, -2, 4, 0],
@@ -87,7 +88,7 @@ fn an_accepted_text_gives_its_formula_and_shown_variables(rt: HostRuntime) -> Re
     Ok(())
 }
 
-// The place of the first text that is not refused so.
+/// The place of the first text that is not refused so.
 pub(crate) fn other(
     alloc: Global,
     texts: &[(&[u8], TextRefused)],
@@ -259,7 +260,7 @@ fn a_text_whose_end_is_wrong_is_refused(rt: HostRuntime) -> Result<(), Fail> {
     Ok(())
 }
 
-// A header, and show lines below it that name variable 2 a thousand times each.
+/// A header, and show lines below it that name variable 2 a thousand times each.
 fn repeating(alloc: Global, header: &[u8]) -> Result<Vec<u8>, AllocError> {
     let mut text = header.to_vec(alloc)?;
     for _ in 0..3 {
@@ -340,7 +341,7 @@ fn a_comment_line_of_other_words_is_passed_over(rt: HostRuntime) -> Result<(), F
     Ok(())
 }
 
-// How many lines are complete.
+/// How many lines are complete.
 fn line_ends(text: &[u8]) -> u64 {
     let mut count: u64 = 0;
     for byte in text {
@@ -351,7 +352,7 @@ fn line_ends(text: &[u8]) -> u64 {
     count
 }
 
-// What is taken in calls before this one.
+/// What is taken in calls before this one.
 fn taken(text: &[u8], step: usize, call: u64) -> &[u8] {
     let mut count: usize = 0;
     for _ in 1..call {
@@ -425,7 +426,7 @@ fn a_fault_names_the_line_unless_one_is_refused(rt: HostRuntime) -> Result<(), F
     Ok(())
 }
 
-// How many bytes are left, where there are at most 100.
+/// How many bytes are left, where there are at most 100.
 fn left(source: &mut BytesIn) -> Result<usize, Failed> {
     let mut buffer = [0u8; 100];
     let mut count: usize = 0;
@@ -435,7 +436,7 @@ fn left(source: &mut BytesIn) -> Result<usize, Failed> {
     Ok(count)
 }
 
-// The refused line ends with byte 15.
+/// The refused line ends with byte 15.
 #[test]
 fn no_byte_is_taken_behind_a_refused_line(rt: HostRuntime) -> Result<(), Fail> {
     let alloc = rt.alloc();

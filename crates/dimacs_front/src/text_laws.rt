@@ -1,17 +1,19 @@
-//! What holds of whole lines, said without the places in them: each function is the statement that it
-//! ensures, and does nothing.
+//! What holds of whole lines, said without the places in them: each function is the statement that
+//! it ensures, and does nothing.
 ghost use Rattle.dimacs_front.specs.TextLaws.{AHeaderHasFourTokens, AShowLineNamesItsVariables};
 ghost use Rattle.dimacs_front.specs.TextLaws.{AVariableIsNamedByItsLine, FewVariablesAreKept};
 ghost use Rattle.dimacs_front.specs.TextLaws.{TheLowestRefusedLineCounts, TheFirstRefusedTokenCounts};
 ghost use Rattle.dimacs_front.specs.TextLaws.{ALineOfNumbersSaysThese, ACommentChangesNothing};
 ghost use Rattle.dimacs_front.specs.TextLaws.{TheFormulaEndsAtAPercent};
 
-/// A line above the header whose first byte is `p` has just the four tokens of a header, or is refused.
+/// A line above the header whose first byte is `p` has just the four tokens of a header, or is
+/// refused.
 pub fn a_header_has_four_tokens()
     ensures { AHeaderHasFourTokens }
 {}
 
-/// A line of number tokens below the header says just these numbers, where the limits have room for them.
+/// A line of number tokens below the header says just these numbers, where the limits have room for
+/// them.
 pub fn a_line_of_numbers_says_these()
     ensures { ALineOfNumbersSaysThese }
 {}
@@ -26,13 +28,14 @@ pub fn a_variable_is_named_by_its_line()
     ensures { AVariableIsNamedByItsLine }
 {}
 
-/// A comment line that is no show line, and does not name a text of this program's own in line 1, changes
-/// nothing.
+/// A comment line that is no show line, and does not name a text of this program's own in line 1,
+/// changes nothing.
 pub fn a_comment_changes_nothing()
     ensures { ACommentChangesNothing }
 {}
 
-/// The formula ends at a line below the header that begins with `%`; no line behind it changes anything.
+/// The formula ends at a line below the header that begins with `%`; no line behind it changes
+/// anything.
 pub fn the_formula_ends_at_a_percent()
     ensures { TheFormulaEndsAtAPercent }
 {}

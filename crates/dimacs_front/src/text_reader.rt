@@ -1,5 +1,5 @@
-//! A text read byte by byte. A line costs no memory, however long it is: only what is seen of its open token
-//! is kept.
+//! A text read byte by byte. A line costs no memory, however long it is: only what is seen of its
+//! open token is kept.
 ghost use Rattle.std.specs.Prelude.{◌≡◌, ◌+◌, ◌^◌, ◌<◌, ◌≤◌, false, [], length, fold, OnOk};
 ghost use Rattle.dimacs_tokens.specs.Seen.{seen};
 ghost use Rattle.dimacs_tokens.specs.Reading.{reading_at, read_byte, token_ends, text_ends};
@@ -13,8 +13,8 @@ use dimacs_tokens::bytes::{is_newline, is_white};
 use std::alloc::{AllocError, Global};
 use std::marker::Model;
 
-/// How many lines are complete, what the closed tokens say, the refusal of the lowest refused line, what is
-/// seen of the open token, and whether the open line has bytes.
+/// How many lines are complete, what the closed tokens say, the refusal of the lowest refused line,
+/// what is seen of the open token, and whether the open line has bytes.
 #[derive(Drop)]
 pub struct TextReader {
     lines: u64,
@@ -35,14 +35,14 @@ impl Model for TextReader {
 
 impl TextReader {
     /// Before the first byte. Takes no memory.
-    pub fn new(alloc: Global) -> Self
+    pub fn make(alloc: Global) -> Self
         ensures { result ≡ reading_at text_at_start (seen []) false }
     {
         TextReader {
             lines: 0,
-            state: TextState::new(alloc),
+            state: TextState::make(alloc),
             stopped: None,
-            token: Seen::new(),
+            token: Seen::make(),
             in_line: false,
         }
     }
@@ -64,8 +64,10 @@ impl TextReader {
     /// Takes the next bytes. After want of memory the reader is of no use.
     pub fn feed(&mut self, piece: &[u8]) -> Result<(), AllocError>
         requires { self.old.state.lines + length piece.now + 1 < 2 ^ 64 }
-        ensures steps { OnOk result (self.new ≡ fold (read_byte eat_token close_line) self.old piece.now) }
-        ensures lines { OnOk result (self.new.state.lines ≤ self.old.state.lines + length piece.now) }
+        ensures steps { OnOk result
+            (self.new ≡ fold (read_byte eat_token close_line) self.old piece.now) }
+        ensures lines { OnOk result
+            (self.new.state.lines ≤ self.old.state.lines + length piece.now) }
     {
         for byte in piece {
             self.take(*byte)?;
@@ -73,7 +75,7 @@ impl TextReader {
         Ok(())
     }
 
-    // Takes the next byte.
+    /// Takes the next byte.
     #[tactic(auto, unfolding(dimacs_tokens::specs::Reading::read_byte))]
     fn take(&mut self, byte: u8) -> Result<(), AllocError>
         requires { self.old.state.lines + 1 < 2 ^ 64 }
@@ -94,11 +96,11 @@ impl TextReader {
         Ok(())
     }
 
-    // Ends the open token, if there is one.
+    /// Ends the open token, if there is one.
     fn end_token(&mut self) -> Result<(), AllocError>
         requires { self.old.state.lines + 1 < 2 ^ 64 }
-        ensures { OnOk result (self.new
-            ≡ reading_at (token_ends eat_token self.old.state self.old.token) (seen []) self.old.in_line) }
+        ensures { OnOk result (self.new ≡ reading_at
+            (token_ends eat_token self.old.state self.old.token) (seen []) self.old.in_line) }
     {
         if !self.token.is_empty() {
             self.state.eat(self.lines + 1, &self.token)?;
@@ -107,10 +109,11 @@ impl TextReader {
         Ok(())
     }
 
-    // Ends the line, behind its last token.
+    /// Ends the line, behind its last token.
     fn end_line(&mut self)
         requires { self.old.state.lines + 1 < 2 ^ 64 }
-        ensures { self.new ≡ reading_at (close_line self.old.state) self.old.token self.old.in_line }
+        ensures { self.new ≡
+            reading_at (close_line self.old.state) self.old.token self.old.in_line }
     {
         self.lines += 1;
         self.state.close(self.lines);
@@ -126,15 +129,13 @@ impl TextReader {
         ensures { Gives (answer (text_ends eat_token close_line self)) result }
     {
         if self.in_line {
-            if let Err(error) = self.end_token() {
-                return Err(ReadRefused::OutOfMemory(error));
-            }
+            self.end_token()?;
             self.end_line();
         }
         self.answer()
     }
 
-    // The answer behind the last line.
+    /// The answer behind the last line.
     fn answer(self) -> Result<Input, ReadRefused>
         ensures { Gives (answer self.state) result }
     {

@@ -14,8 +14,8 @@ use sat_terms::Subject;
 use std::alloc::{AllocError, Global};
 use std::marker::Model;
 
-/// The place in the line, whether there was a header, the formula below it, whether a show line was ended,
-/// and the variables of all show lines, each once.
+/// The place in the line, whether there was a header, the formula below it, whether a show line was
+/// ended, and the variables of all show lines, each once.
 #[derive(Drop)]
 pub struct TextState {
     alloc: Global,
@@ -42,16 +42,16 @@ impl Model for TextState {
 
 impl TextState {
     /// Before the first token. Takes no memory yet.
-    pub fn new(alloc: Global) -> Self
+    pub fn make(alloc: Global) -> Self
         ensures { result ≡ nothing_said_yet }
     {
         TextState {
             alloc,
             place: LinePlace::Beginning,
             started: false,
-            formula: Written::new(alloc, 0, 0),
+            formula: Written::make(alloc, 0, 0),
             given: false,
-            named: ShowLines::new(alloc),
+            named: ShowLines::make(alloc),
         }
     }
 
@@ -71,7 +71,7 @@ impl TextState {
         }
     }
 
-    // Takes the first token of a line.
+    /// Takes the first token of a line.
     fn begin_line(&mut self, line: u64, token: &Seen) -> Result<(), AllocError>
         ensures { OnOk result (self.new ≡ line_begun line self.old token.now) }
     {
@@ -86,7 +86,7 @@ impl TextState {
         Ok(())
     }
 
-    // Takes the first token of a line below the header, which begins no comment.
+    /// Takes the first token of a line below the header, which begins no comment.
     fn begin_below(&mut self, line: u64, token: &Seen) -> Result<(), AllocError>
         ensures { OnOk result (self.new ≡ below_begun line self.old token.now) }
     {
@@ -101,7 +101,7 @@ impl TextState {
         self.eat_number(line, token.number().value())
     }
 
-    // Takes a token of a clause, by its value.
+    /// Takes a token of a clause, by its value.
     fn eat_number(&mut self, line: u64, value: Option<i64>) -> Result<(), AllocError>
         ensures { OnOk result (self.new ≡ number_eaten line self.old value) }
     {
@@ -115,7 +115,7 @@ impl TextState {
         }
     }
 
-    // Takes the 0 of a clause.
+    /// Takes the 0 of a clause.
     fn eat_zero(&mut self, line: u64) -> Result<(), AllocError>
         ensures { OnOk result (self.new ≡ zero_eaten line self.old) }
     {
@@ -128,7 +128,7 @@ impl TextState {
         Ok(())
     }
 
-    // Takes a literal.
+    /// Takes a literal.
     fn eat_literal(&mut self, line: u64, literal: i64) -> Result<(), AllocError>
         requires { 0 < nat_abs literal }
         ensures { OnOk result (self.new ≡ literal_eaten line self.old literal) }
@@ -146,7 +146,7 @@ impl TextState {
         Ok(())
     }
 
-    // Takes a token of a show line, by its value.
+    /// Takes a token of a show line, by its value.
     fn eat_shown(&mut self, line: u64, variable: Option<u32>) -> Result<(), AllocError>
         ensures { OnOk result (self.new ≡ shown_eaten line self.old variable) }
     {
@@ -175,7 +175,7 @@ impl TextState {
         }
     }
 
-    // Begins the formula below a header with these numbers.
+    /// Begins the formula below a header with these numbers.
     fn end_header(&mut self, line: u64, variables: u32, clauses: u32)
         ensures { self.new ≡ header_ended line self.old variables clauses }
     {
@@ -184,7 +184,7 @@ impl TextState {
         } else if clauses > MOST_CLAUSES {
             self.place = LinePlace::Refused(TextRefused::TooManyClauses { line });
         } else {
-            self.formula = Written::new(self.alloc, variables, clauses);
+            self.formula = Written::make(self.alloc, variables, clauses);
             self.started = true;
             self.place = LinePlace::Beginning;
         }
@@ -197,7 +197,7 @@ impl TextState {
         self.place.refusal()
     }
 
-    // The first refusal of the end, but for too many shown variables.
+    /// The first refusal of the end, but for too many shown variables.
     #[tactic(auto, unfolding(crate::specs::Ending::end_refusal))]
     fn end_refusal(&self, line: u64) -> Option<TextRefused>
         ensures { result ≡ end_refusal line self.now }
@@ -228,15 +228,14 @@ impl TextState {
             return Err(ReadRefused::Text(refusal));
         }
         let variables = self.formula.variables();
-        match self.named.shown(self.alloc, self.given, variables) {
-            Ok(Some(shown)) => {
+        match self.named.shown(self.alloc, self.given, variables)? {
+            Some(shown) => {
                 let formula = self.formula.into_formula();
                 Ok(Input {
                     subject: Subject { formula, shown },
                 })
             }
-            Ok(None) => Err(ReadRefused::Text(TextRefused::TooManyShown { line })),
-            Err(error) => Err(ReadRefused::OutOfMemory(error)),
+            None => Err(ReadRefused::Text(TextRefused::TooManyShown { line })),
         }
     }
 }

@@ -9,8 +9,8 @@ use sat_terms::{Clause, Formula, Items};
 use std::alloc::{AllocError, Global};
 use std::marker::Model;
 
-/// The header's numbers, the clauses that are ended, the literals of the next one, and how many literals
-/// there are in all.
+/// The header's numbers, the clauses that are ended, the literals of the next one, and how many
+/// literals there are in all.
 #[derive(Drop)]
 pub struct Written {
     alloc: Global,
@@ -44,7 +44,7 @@ impl Model for Written {
 
 impl Written {
     /// Below a header with these numbers. Takes no memory yet.
-    pub fn new(alloc: Global, variables: u32, said: u32) -> Self
+    pub fn make(alloc: Global, variables: u32, said: u32) -> Self
         requires { variables ≤ MOST_VARIABLES }
         ensures { result ≡ nothing_written variables said }
     {

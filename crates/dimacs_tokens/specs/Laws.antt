@@ -1,5 +1,5 @@
 -- What holds of lines, tokens and numbers, said without the folds that cut them.
-use Rattle.std.specs.Prelude.{◌≡◌, ℕ, ◌<◌, Bool, true, false, not, ◌&&◌, List, [], ◌∷◌, ◌++◌, length, flat_map, filter, ℤ, nat_abs, Some}
+use Rattle.std.specs.Prelude.{◌≡◌, ℕ, ◌<◌, Bool, true, false, not, ◌&&◌, List, ◌++◌, length, flat_map, filter, ℤ, nat_abs, codes, Some}
 use Rattle.std.specs.List.{list_all}
 use Rattle.std.specs.Str.{bytes_eq, all_ascii_digits}
 use Rattle.std.specs.Fmt.{signed_decimal}
@@ -14,7 +14,7 @@ is_line line = list_all (λ b. not (is_newline b)) line
 
 -- a line and the byte 10 that ends it
 abbrev pub ended : List ℕ → List ℕ
-ended line = line ++ 10 ∷ []
+ended line = line ++ codes "\n"
 
 -- the text of these lines
 abbrev pub text_of : List (List ℕ) → List ℕ
@@ -47,10 +47,12 @@ abbrev pub WrittenNumbersHaveTheirValue : Type 0
 WrittenNumbersHaveTheirValue =
     (l : ℤ) → nat_abs l < size_cap → token_value (signed_decimal l) ≡ Some l
 
--- a zero (48) before digits changes nothing, with a minus (45) before it or without
+-- a zero before digits changes nothing, with a minus before it or without
 abbrev pub LeadingZerosChangeNothing : Type 0
 LeadingZerosChangeNothing =
-    (ds : List ℕ) → is_nil ds ≡ false → all_ascii_digits ds ≡ true → (token_value (48 ∷ ds) ≡ token_value ds) × (token_value (45 ∷ 48 ∷ ds) ≡ token_value (45 ∷ ds))
+    (ds : List ℕ) → is_nil ds ≡ false → all_ascii_digits ds ≡ true →
+    (token_value (codes "0" ++ ds) ≡ token_value ds)
+    × (token_value (codes "-0" ++ ds) ≡ token_value (codes "-" ++ ds))
 
 -- eight bytes tell a token from each shorter word
 abbrev pub WordsAreToldByHead : Type 0

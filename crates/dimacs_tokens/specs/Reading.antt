@@ -1,5 +1,6 @@
--- A text read token by token, with what a reader does at a token and at the end of a line left open.
--- `eat` is what a token does to the reader's state, and `close` what the end of a line does to it.
+-- A text read token by token, with what a reader does at a token and at the end of a line left
+-- open. `eat` is what a token does to the reader's state, and `close` what the end of a line does
+-- to it.
 use Rattle.std.specs.Prelude.{ℕ, Bool, true, false, not, cond, List, [], fold}
 use Rattle.dimacs_tokens.specs.Bytes.{is_newline, is_white}
 use Rattle.dimacs_tokens.specs.Cuts.{cut_tokens, tokens, complete, rest_of}
@@ -27,7 +28,8 @@ module _ {S : Type 0} (eat : S → SeenView → S) where
   -- the reader after some bytes of a line, from the state at the line's start
   abbrev pub within_line : S → List ℕ → Reading S
   within_line s rest =
-      reading_at (eats s (cut_tokens rest).whole) (seen (cut_tokens rest).open_part) (not (is_nil rest))
+      reading_at (eats s (cut_tokens rest).whole) (seen (cut_tokens rest).open_part)
+      (not (is_nil rest))
 
 module _ {S : Type 0} (eat : S → SeenView → S) (close : S → S) where
   -- the state after a line
@@ -38,7 +40,8 @@ module _ {S : Type 0} (eat : S → SeenView → S) (close : S → S) where
   unfoldable pub lines_read : S → List (List ℕ) → S
   lines_read s ls = fold line_read s ls
 
-  -- the reader after these bytes: its complete lines are read, and the closed tokens of the open line
+  -- the reader after these bytes: its complete lines are read, and the closed tokens of the open
+  -- line
   unfoldable pub reading_of : S → List ℕ → Reading S
   reading_of start bs = within_line eat (lines_read start (complete bs)) (rest_of bs)
 

@@ -9,7 +9,8 @@ pub fn is_newline(byte: u8) -> bool
     byte == b'\n'
 }
 
-/// Whether the byte is white space inside a line: tab, vertical tab, form feed, carriage return or space.
+/// Whether the byte is white space inside a line: tab, vertical tab, form feed, carriage return or
+/// space.
 #[tactic(auto, unfolding(crate::specs::Bytes::is_white))]
 pub fn is_white(byte: u8) -> bool
     ensures { result ≡ is_white byte }

@@ -1,5 +1,5 @@
-//! What holds of lines, tokens and numbers, said without the way in which they are cut: each function is the
-//! statement that it ensures, and does nothing.
+//! What holds of lines, tokens and numbers, said without the way in which they are cut: each
+//! function is the statement that it ensures, and does nothing.
 ghost use Rattle.dimacs_tokens.specs.Laws.{EndedLinesAreLines, OnlyTokensAreCut, NoByteIsLost, WrittenNumbersHaveTheirValue, LeadingZerosChangeNothing, WordsAreToldByHead};
 
 /// The lines of a text that ends each line by byte 10 are just these lines.

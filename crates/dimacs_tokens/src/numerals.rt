@@ -1,5 +1,6 @@
-//! Number tokens: one or more decimal digits, with a minus before them or without. Leading zeros are allowed,
-//! and so is any length. A minus before the value 0 is no number, and nor is a token with a plus.
+//! Number tokens: one or more decimal digits, with a minus before them or without. Leading zeros
+//! are allowed, and so is any length. A minus before the value 0 is no number, and nor is a token
+//! with a plus.
 ghost use Rattle.std.specs.Prelude.{◌≡◌};
 ghost use Rattle.dimacs_tokens.specs.Numbers.{value_of, more_numeral, digit_after};
 
@@ -10,7 +11,8 @@ pub enum Numeral {
     Nothing,
     /// A minus alone.
     Minus,
-    /// Digits, with or without a minus before them. A size from `u32::MAX` on is held as `u32::MAX`.
+    /// Digits, with or without a minus before them. A size from `u32::MAX` on is held as
+    /// `u32::MAX`.
     Whole { negative: bool, size: u32 },
     /// Anything else.
     Broken,
@@ -49,7 +51,7 @@ impl Numeral {
     }
 }
 
-// The number with one more byte at its end.
+/// The number with one more byte at its end.
 fn digit_after(negative: bool, size: u32, byte: u8) -> Numeral
     ensures { result ≡ digit_after negative size byte }
 {

@@ -2,7 +2,7 @@ use crate::bytes::{is_newline, is_white};
 use crate::{Numeral, Seen, laws};
 
 fn seen_of(token: &[u8]) -> Seen {
-    let mut seen = Seen::new();
+    let mut seen = Seen::make();
     for byte in token {
         seen.push(*byte);
     }
@@ -78,7 +78,7 @@ fn the_laws_are_called(rt: HostRuntime) {
     laws::written_numbers_have_their_value();
     laws::leading_zeros_change_nothing();
     laws::words_are_told_by_head();
-    assert!(rt; Seen::new().is_empty());
+    assert!(rt; Seen::make().is_empty());
 }
 
 #[test]

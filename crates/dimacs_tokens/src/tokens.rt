@@ -1,5 +1,5 @@
-//! What a reader keeps of a token while its bytes come: its first eight bytes, and what it says as a number.
-//! So a token of any length costs no memory. No word of a DIMACS text has eight bytes.
+//! What a reader keeps of a token while its bytes come: its first eight bytes, and what it says as
+//! a number. So a token of any length costs no memory. No word of a DIMACS text has eight bytes.
 ghost use Rattle.std.specs.Prelude.{◌≡◌, ℕ, ◌<◌, List, [], ◌∷◌, ◌++◌, length};
 ghost use Rattle.std.specs.Str.{bytes_eq};
 ghost use Rattle.dimacs_tokens.specs.Seen.{seen, more_seen, is_empty, begins_with};
@@ -29,7 +29,7 @@ impl Model for Seen {
 impl Seen {
     /// No byte is seen.
     #[tactic(auto, unfolding(crate::specs::Seen::seen, crate::specs::Numbers::numeral))]
-    pub fn new() -> Self
+    pub fn make() -> Self
         ensures { result ≡ seen [] }
     {
         Seen {

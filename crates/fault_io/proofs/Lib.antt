@@ -1,5 +1,6 @@
 pub mod Appends
 pub mod Consumes
 pub mod FinishedAfter
-pub mod Rose
+pub mod Giving
+pub mod Taking
 mod Moves

@@ -1,10 +1,9 @@
 -- Bytes that move between a list and a buffer, and a piece that goes out in parts.
-use Rattle.std.proofs.Common.{◌≡◌, ℕ, ◌+◌, ◌-◌, ◌<◌, ◌≤◌, Option, List, [], ◌++◌, length, take, drop, min, sym, ◌∙◌, ap, subst, arith, length-take, length-drop}
+use Rattle.std.proofs.Common.{◌≡◌, ℕ, ◌+◌, ◌-◌, ◌<◌, ◌≤◌, List, [], ◌++◌, length, take, drop, min, sym, ◌∙◌, ap, subst, arith, length-take, length-drop}
 use Rattle.std.proofs.lemmas.List.{take-append-drop, take_at, take_all, drop-drop, drop_all}
 use Rattle.std.proofs.Math.Seq.{take-add}
-use Rattle.std.specs.Io.KnownBytes.{Appends, Keeps}
-use Rattle.fault_io.specs.Bytes.{AppendsPrefix}
-use Rattle.fault_io.proofs.Appends.{Appends-more, Appends-Keeps}
+use Rattle.fault_io.specs.Sinks.{SinkView, TakesBytes, SinkFails, TakesFront}
+use Rattle.fault_io.proofs.Taking.{takes_more, takes_and_fails, front_longer}
 
 -- the rest of a list, cut at its own length, is the rest
 rest_is : (at : ℕ) (xs : List ℕ) → take (length xs - at) (drop at xs) ≡ drop at xs
@@ -33,18 +32,17 @@ none_moved bytes seen at n share step room seen_is count_is share_is some_step s
     drop_all (at + n) bytes (omega arith)
 
 -- one more part of the piece went out
-pub part_more : (a b c : Option (List ℕ)) (piece : List ℕ) (at n : ℕ) → Appends a b (take at piece) →
-    Appends b c (take n (take (length piece - at) (drop at piece))) → Appends a c (take (at + n) piece)
+pub part_more : (a b c : SinkView) (piece : List ℕ) (at n : ℕ) → TakesBytes a b (take at piece) →
+    TakesBytes b c (take n (take (length piece - at) (drop at piece))) → TakesBytes a c (take (at + n) piece)
 part_more a b c piece at n first second =
-    let parts : take at piece ++ take n (take (length piece - at) (drop at piece)) ≡ take (at + n) piece =
+    let next : List ℕ = take n (take (length piece - at) (drop at piece)) in
+    let parts : take at piece ++ next ≡ take (at + n) piece =
     ap (λ (l : List ℕ). take at piece ++ take n l) (rest_is at piece) ∙ sym (take-add at n piece) in
-    subst (λ (l : List ℕ). Appends a c l) parts (Appends-more a b c (take at piece) (take n (take (length piece - at) (drop at piece))) first second)
+    subst (λ (l : List ℕ). TakesBytes a c l) parts (takes_more a b c (take at piece) next first second)
 
 -- and no other did
-pub part_prefix : (a b c : Option (List ℕ)) (piece : List ℕ) (at : ℕ) → Appends a b (take at piece) → Keeps b c → AppendsPrefix a c piece
-part_prefix a b c piece at first kept = record {
-  gone = take at piece;
-  rest = drop at piece;
-  is_front = take-append-drop at piece;
-  appended = Appends-Keeps a b c (take at piece) first kept;
-}
+pub part_front : (a b c : SinkView) (piece : List ℕ) (at : ℕ) → TakesBytes a b (take at piece) →
+    SinkFails b c → TakesFront a c piece
+part_front a b c piece at first fails =
+    subst (λ (l : List ℕ). TakesFront a c l) (take-append-drop at piece)
+    (front_longer a c (take at piece) (drop at piece) (takes_and_fails a b c (take at piece) first fails))

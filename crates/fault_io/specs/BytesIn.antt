@@ -1,6 +1,7 @@
 -- A source in memory.
-use Rattle.std.specs.Prelude.{ℕ, List, length, drop, min, Contains}
+use Rattle.std.specs.Prelude.{ℕ, Some, List, length, drop, min, Contains}
 use Rattle.fault_io.specs.Faults.{one_more}
+use Rattle.fault_io.specs.Sources.{SourceView}
 
 -- the bytes that are left, the most that one call gives, the numbers of the calls that fail,
 -- and how many calls and faults there were
@@ -10,6 +11,10 @@ pub record BytesInView : Type 0 where
   pub fails : List ℕ
   pub calls : ℕ
   pub faults : ℕ
+
+-- it tells its bytes
+abbrev pub source_of : BytesInView → SourceView
+source_of v = record { left = Some v.left; faults = v.faults }
 
 -- the next call is one of those that fail
 abbrev pub FailsNext : BytesInView → Type 0

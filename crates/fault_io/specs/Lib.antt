@@ -2,5 +2,7 @@
 pub mod Faults
 pub mod Bytes
 pub mod Finish
+pub mod Sources
+pub mod Sinks
 pub mod BytesIn
 pub mod BytesOut

@@ -1,9 +1,8 @@
 //! A source in memory, which tells its bytes and fails at chosen calls.
-ghost use Rattle.std.specs.Prelude.{◌≡◌, ℕ, ◌<◌, ◌↔◌, length, Some, IsErr, IfOk, OnErr};
+ghost use Rattle.std.specs.Prelude.{◌≡◌, ℕ, ◌<◌, ◌↔◌, length, IsErr, IfOk, OnErr};
 ghost use Rattle.std.specs.Io.{ReadsAtMost};
-ghost use Rattle.std.specs.Io.KnownBytes.{ReadConsumes};
-ghost use Rattle.fault_io.specs.Faults.{HasCause};
-ghost use Rattle.fault_io.specs.BytesIn.{FailsNext, taken_count, after_take, after_fault};
+ghost use Rattle.fault_io.specs.Sources.{GivesInto};
+ghost use Rattle.fault_io.specs.BytesIn.{source_of, FailsNext, taken_count, after_take, after_fault};
 
 use crate::{Failed, Source};
 use std::marker::Model;
@@ -61,15 +60,12 @@ impl BytesIn {
 }
 
 impl Source for BytesIn {
-    ghost left = { λ s. Some s.left };
-
-    ghost faults = { λ s. s.faults };
+    ghost shows = { λ s. source_of s };
 
     fn take(&mut self, buf: &mut [u8]) -> Result<usize, Failed>
         requires { 0 < length buf.old }
         ensures bound { ReadsAtMost result buf.new }
-        ensures bytes { ReadConsumes (Some self.old.left) (Some self.new.left) result buf.new }
-        ensures cause { HasCause self.old.faults self.new.faults result }
+        ensures gives { GivesInto (source_of self.old) (source_of self.new) buf.new result }
 
         // Which call fails, and how much every other one moves.
         ensures failing { IsErr result ↔ FailsNext self.old }

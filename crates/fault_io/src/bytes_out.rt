@@ -1,10 +1,7 @@
 //! A sink in memory, which tells its bytes and fails at chosen calls.
-ghost use Rattle.std.specs.Prelude.{◌≡◌, ℕ, ◌<◌, ◌≤◌, ◌↔◌, ◌⊎◌, true, false, [], length, Some, IsErr, IfOk, OnOk, OnErr, MatchResult};
-ghost use Rattle.std.specs.Io.KnownBytes.{WriteAppends, Keeps};
-ghost use Rattle.fault_io.specs.Bytes.{IsShareOf};
-ghost use Rattle.fault_io.specs.Faults.{HasCause};
-ghost use Rattle.fault_io.specs.Finish.{FinishedAfter};
-ghost use Rattle.fault_io.specs.BytesOut.{FailsNext, IsFullFor, put_count, after_put, after_finish, after_fault};
+ghost use Rattle.std.specs.Prelude.{◌≡◌, ℕ, ◌<◌, ◌≤◌, ◌↔◌, ◌⊎◌, false, [], length, IsErr, IfOk, OnOk, OnErr};
+ghost use Rattle.fault_io.specs.Sinks.{TakesSome, Finishes};
+ghost use Rattle.fault_io.specs.BytesOut.{sink_of, FailsNext, IsFullFor, put_count, after_put, after_finish, after_fault};
 
 use crate::{Failed, Sink};
 use std::alloc::{AllocError, Global};
@@ -40,7 +37,8 @@ impl Model for BytesOut {
       finished = s.finished;
     } };
 
-    ghost invariant = { λ s. (vec_len s.bytes ≤ s.room) × (s.room ≤ vec_capacity s.bytes) × (0 < s.step) };
+    ghost invariant = { λ s.
+        (vec_len s.bytes ≤ s.room) × (s.room ≤ vec_capacity s.bytes) × (0 < s.step) };
 }
 
 impl BytesOut {
@@ -83,19 +81,10 @@ impl BytesOut {
 }
 
 impl Sink for BytesOut {
-    ghost held = { λ s. Some s.bytes };
-
-    ghost faults = { λ s. s.faults };
-
-    ghost finished = { λ s. s.finished };
+    ghost shows = { λ s. sink_of s };
 
     fn put(&mut self, piece: &[u8]) -> Result<usize, Failed>
-        ensures bound { IfOk result (λ n. IsShareOf n piece.now) }
-        ensures bytes { WriteAppends (Some self.old.bytes) (Some self.new.bytes) result piece.now }
-        ensures cause { HasCause self.old.faults self.new.faults result }
-        ensures finished { MatchResult result
-            (λ n. FinishedAfter n self.old.finished self.new.finished)
-            (λ _. self.new.finished ≡ self.old.finished) }
+        ensures takes { TakesSome (sink_of self.old) (sink_of self.new) piece.now result }
 
         // Which call fails, and how much every other one takes.
         ensures failing { IsErr result ↔ (FailsNext self.old ⊎ IsFullFor self.old piece.now) }
@@ -120,12 +109,7 @@ impl Sink for BytesOut {
     }
 
     fn finish(&mut self) -> Result<(), Failed>
-        ensures bytes { Keeps (Some self.old.bytes) (Some self.new.bytes) }
-        ensures cause { HasCause self.old.faults self.new.faults result }
-        ensures finished { MatchResult result
-            (λ _. self.new.finished ≡ true)
-            (λ _. self.new.finished ≡ self.old.finished) }
-
+        ensures finishes { Finishes (sink_of self.old) (sink_of self.new) result }
         ensures failing { IsErr result ↔ FailsNext self.old }
         ensures ok { OnOk result (self.new ≡ after_finish self.old) }
         ensures err { OnErr result (self.new ≡ after_fault self.old) }

@@ -20,5 +20,8 @@ pub use std_sink::StdSink;
 pub use std_source::StdSource;
 pub use whole::{WriteFault, write_whole};
 
+/// How often a call on a stream of std is tried at most, where each is interrupted.
+pub const MOST_TRIES: usize = 1_000;
+
 #[cfg(test)]
 mod tests;

@@ -1,8 +1,7 @@
 //! Where bytes come from.
-ghost use Rattle.std.specs.Prelude.{ℕ, ◌<◌, List, Option, length};
+ghost use Rattle.std.specs.Prelude.{ℕ, ◌<◌, length};
 ghost use Rattle.std.specs.Io.{ReadsAtMost};
-ghost use Rattle.std.specs.Io.KnownBytes.{ReadConsumes};
-ghost use Rattle.fault_io.specs.Faults.{HasCause};
+ghost use Rattle.fault_io.specs.Sources.{SourceView, GivesInto};
 
 /// A call on the outside failed: nothing moved, and the count of faults rose.
 #[derive(Clone, Copy, Debug, PartialEq, Eq)]
@@ -10,16 +9,13 @@ pub struct Failed;
 
 /// Gives bytes from the front of what it has left.
 pub trait Source {
-    /// The bytes that are left, where the source tells them.
-    ghost left: { Self → Option (List ℕ) };
+    /// The bytes that are left, where the source tells them, and how often a call failed.
+    ghost shows: { Self → SourceView };
 
-    /// How often a call failed. It never falls.
-    ghost faults: { Self → ℕ };
-
-    /// Moves some bytes to the front of the buffer, and answers how many. 0 means that none are left.
+    /// Moves some bytes to the front of the buffer, and answers how many. 0 means that none are
+    /// left.
     fn take(&mut self, buf: &mut [u8]) -> Result<usize, Failed>
         requires { 0 < length buf.old }
         ensures bound { ReadsAtMost result buf.new }
-        ensures bytes { ReadConsumes (left self.old) (left self.new) result buf.new }
-        ensures cause { HasCause (faults self.old) (faults self.new) result };
+        ensures gives { GivesInto (shows self.old) (shows self.new) buf.new result };
 }

@@ -1,10 +1,13 @@
 //! A writer of std as a sink: the trusted edge.
 ghost use Rattle.std.specs.Prelude.{◌≡◌, ℕ, false};
+ghost use Rattle.fault_io.specs.Sinks.{SinkView};
 
-use crate::{Failed, Sink};
-use std::io::Write;
+use crate::{Failed, MOST_TRIES, Sink};
+use std::io::{ErrorKind, Write};
 
-/// Passes bytes on to the writer, and tells what it tells, which over standard output is nothing.
+/// Passes bytes on to the writer, and tells what it tells, which over standard output is nothing. A
+/// write of 0 bytes of a piece that has some is a fault. A call that std says was interrupted is
+/// tried again, up to `MOST_TRIES` times in all.
 #[derive(Drop)]
 pub struct StdSink<W> {
     writer: W,
@@ -15,9 +18,8 @@ pub struct StdSink<W> {
 impl<W: Write> StdSink<W> {
     /// Takes no memory.
     pub fn make(writer: W) -> StdSink<W>
-        ensures held { ⟦<StdSink<W> as Sink>⟧.held result ≡ W.contents writer }
-        ensures faults { ⟦<StdSink<W> as Sink>⟧.faults result ≡ 0 }
-        ensures finished { ⟦<StdSink<W> as Sink>⟧.finished result ≡ false }
+        ensures { ⟦<StdSink<W> as Sink>⟧.shows result ≡
+            record { held = W.contents writer; faults = 0; finished = false } }
     {
         StdSink {
             writer,
@@ -28,38 +30,42 @@ impl<W: Write> StdSink<W> {
 }
 
 impl<W: Write> Sink for StdSink<W> {
-    ghost held = { λ s. W.contents s.writer };
-
-    ghost faults = { λ s. s.faults };
-
-    ghost finished = { λ s. s.finished };
+    ghost shows = { λ s. record {
+      held = W.contents s.writer;
+      faults = s.faults;
+      finished = s.finished;
+    } };
 
     fn put(&mut self, piece: &[u8]) -> Result<usize, Failed> {
         if piece.is_empty() {
             return Ok(0);
         }
-        match self.writer.write(piece) {
-            Ok(0) | Err(_) => {
-                self.faults = self.faults.saturating_add(1);
-                Err(Failed)
-            }
-            Ok(taken) => {
-                self.finished = false;
-                Ok(taken)
+        for _ in 0..MOST_TRIES {
+            match self.writer.write(piece) {
+                Ok(taken) if taken > 0 => {
+                    self.finished = false;
+                    return Ok(taken);
+                }
+                Err(error) if error.kind() == ErrorKind::Interrupted => {}
+                Ok(_) | Err(_) => break,
             }
         }
+        self.faults = self.faults.saturating_add(1);
+        Err(Failed)
     }
 
     fn finish(&mut self) -> Result<(), Failed> {
-        match self.writer.flush() {
-            Ok(()) => {
-                self.finished = true;
-                Ok(())
-            }
-            Err(_) => {
-                self.faults = self.faults.saturating_add(1);
-                Err(Failed)
+        for _ in 0..MOST_TRIES {
+            match self.writer.flush() {
+                Ok(()) => {
+                    self.finished = true;
+                    return Ok(());
+                }
+                Err(error) if error.kind() == ErrorKind::Interrupted => {}
+                Err(_) => break,
             }
         }
+        self.faults = self.faults.saturating_add(1);
+        Err(Failed)
     }
 }

@@ -3,4 +3,4 @@ use Rattle.cube_text.proofs.Handing.{Hands-along}
 use Rattle.allsat_run.proofs.notes.put_number.Goals as goal
 
 pub returns : goal.returns
-returns g c = Hands-along _ _ _ _ _ _ _ _ (c.as_bytes.ensures.value ∙ c.format.ensures.text) c.put.ensures
+returns g c = Hands-along _ _ _ _ _ _ (c.as_bytes.ensures.value ∙ c.format.ensures.text) c.put.ensures

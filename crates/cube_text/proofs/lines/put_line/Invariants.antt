@@ -5,4 +5,5 @@ use Rattle.cube_text.proofs.lines.put_line.Given as goal
 
 abbrev pub invariant-loop-number : goal.invariant-loop-number
 invariant-loop-number g l =
-    HandsIn g.K.Sink.held g.K.Sink.faults l.fn.out l.fn.buffer l.out l.buffer (l.front ++ flat_map number_word (take l.number-index l.numbers))
+    HandsIn g.K.Sink.shows l.fn.out l.fn.buffer l.out l.buffer
+    (l.front ++ flat_map number_word (take l.number-index l.numbers))

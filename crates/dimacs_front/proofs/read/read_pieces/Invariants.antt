@@ -5,10 +5,9 @@ use Rattle.dimacs_front.proofs.read.read_pieces.Given as goal
 
 abbrev pub invariant-loop-reader : goal.invariant-loop-reader
 invariant-loop-reader g l = record {
-  took : TookText (g.S.Source.left l.initial.source) (g.S.Source.left l.source) l.reader l.count;
+  took : TookText (g.S.Source.shows l.initial.source) (g.S.Source.shows l.source) l.reader l.count;
   within : l.count ≤ most_bytes;
   lines : l.reader.state.lines ≤ l.count;
-  later : g.S.Source.faults l.initial.source ≤ g.S.Source.faults l.source;
 }
 
 abbrev pub decreases-loop-reader : goal.decreases-loop-reader

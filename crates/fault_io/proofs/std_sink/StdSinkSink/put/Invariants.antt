@@ -1,0 +1,10 @@
+use Rattle.std.proofs.Common.{◌≡◌}
+use Rattle.std.specs.Io.KnownBytes.{Keeps}
+use Rattle.fault_io.proofs.std_sink.StdSinkSink.put.Given as goal
+
+abbrev pub invariant-loop : goal.invariant-loop
+invariant-loop g l = record {
+  kept : Keeps (g.W.Write.contents l.initial.self.writer) (g.W.Write.contents l.self.writer);
+  faults : l.self.faults ≡ l.initial.self.faults;
+  finished : l.self.finished ≡ l.initial.self.finished;
+}
