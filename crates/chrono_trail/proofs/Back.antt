@@ -1,5 +1,5 @@
 -- Levels taken back: which items stay, and what the table tells then.
-use Rattle.std.proofs.Common.{◌≡◌, ℕ, zero, suc, ◌+◌, ◌-◌, ◌<◌, ◌≤◌, Bool, true, false, cond, ◌&&◌, nat_eq, nat_lt, nat_le, List, [], ◌∷◌, ◌++◌, length, get_or, take, drop, filter, Option, Some, None, nat_abs, is_none, refl, sym, ap, subst, ◌∙◌, inl, inr, arith}
+use Rattle.std.proofs.Common.{◌≡◌, ℕ, zero, suc, ◌+◌, ◌-◌, ◌<◌, ◌≤◌, Bool, true, false, cond, ◌&&◌, nat_eq, nat_lt, nat_le, List, [], ◌∷◌, ◌++◌, length, get_or, take, drop, filter, Some, None, nat_abs, is_none, refl, sym, ap, subst, ◌∙◌, inl, inr, arith}
 use Rattle.std.specs.List.{list_all, All}
 use Rattle.std.proofs.lemmas.Bool.{and_parts, and_from, and_right, or_from, cases_Bool, eqb-true, leb-true, leb-false, le-leb, lt-leb}
 use Rattle.std.proofs.lemmas.List.{take_more, take-append-drop, length-drop, get_or-drop}
@@ -7,7 +7,7 @@ use Rattle.std.proofs.lemmas.List.Folds.{list_any-append}
 use Rattle.search_region.proofs.Back.{all_in_filter}
 use Rattle.chrono_trail.specs.declared.item.Item.{Item}
 use Rattle.chrono_trail.specs.Items.{item_of, is_within, are_distinct, is_decided, level_after, depth_from, may_stand, may_all_stand, upto, HasPlace, goes}
-use Rattle.chrono_trail.specs.Trails.{IsTrail, IsKept}
+use Rattle.chrono_trail.specs.Trails.{IsTrail}
 use Rattle.chrono_trail.proofs.Items.{none_is, is_none_from, depth_from-append}
 
 low_after : (k : ℕ) (i : Item) → is_decided i.kind ≡ false → level_after k i ≡ k
@@ -242,28 +242,3 @@ pub place_after : (n places start : ℕ) (items : List Item) → list_all (is_wi
 place_after n places start items w long k d h =
     let inside : start + k < length items = omega (arith, length-drop start items) in
     subst (HasPlace places) (sym (get_or-drop start items k d)) (place_at n places items w long (start + k) d inside)
-
--- the table after levels were taken back
-pub kept_back : (items : List Item) (given now : List (Option Item)) (level capacity same m : ℕ) → IsKept items given level capacity → m ≤ level → length now ≡ length given → same ≡ capacity → ((v : ℕ) → get_or now v None ≡ cond (goes (m + 1) items v) None (get_or given v None)) → IsKept (filter (upto m) items) now m same
-kept_back items given now level capacity same m k low long wide empties =
-    let places = k.places in
-    let room = k.room in
-    record {
-      trail = subst (λ n. IsTrail (n - 1) (filter (upto m) items) m) (sym long) (trail_back (length given - 1) items level m k.trail low);
-      places = omega arith;
-      tells = λ v h. empties v ∙ ap (cond (goes (m + 1) items v) None) (k.tells v (omega arith)) ∙ sym (tells_back m items v k.trail.distinct);
-      room = omega arith;
-    }
-
--- the table after all was taken off
-pub kept_nothing : (items : List Item) (given now : List (Option Item)) (level capacity same : ℕ) → IsKept items given level capacity → length now ≡ length given → same ≡ capacity → ((v : ℕ) → get_or now v None ≡ cond (goes 0 items v) None (get_or given v None)) → IsKept [] now 0 same
-kept_nothing items given now level capacity same k long wide empties =
-    let places = k.places in
-    let room = k.room in
-    let small = k.trail.small in
-    record {
-      trail = record { small = omega arith; within = refl; distinct = refl; stands = refl; current = refl };
-      places = omega arith;
-      tells = λ v h. empties v ∙ ap (cond (goes 0 items v) None) (k.tells v (omega arith)) ∙ tells_cleared items v;
-      room = omega arith;
-    }

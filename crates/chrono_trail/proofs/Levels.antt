@@ -4,13 +4,13 @@ use Rattle.std.proofs.Common.{◌≡◌, ℕ, suc, ◌+◌, ◌-◌, ◌<◌, �
 use Rattle.std.specs.List.{list_any, range_with_len}
 use Rattle.std.proofs.lemmas.Bool.{and_parts, and_from, and_right, or_from, cases_Bool, cases_eq, eqb-true, eq-eqb, ne_eqb}
 use Rattle.chrono_trail.specs.declared.item.Item.{Item}
-use Rattle.chrono_trail.specs.Items.{is_decided, level_after, depth_from, may_stand, may_all_stand}
-use Rattle.chrono_trail.specs.Laws.{decides, decision_levels, HasOneDecision}
+use Rattle.chrono_trail.specs.Items.{is_decided, decides, level_after, depth_from, may_stand, may_all_stand}
+use Rattle.chrono_trail.specs.Laws.{decision_levels, HasOneDecision}
 use Rattle.chrono_trail.proofs.Items.{depth_from-append}
 use Rattle.chrono_trail.proofs.Back.{level_rises, depth_rises, low_item}
 
 -- a decision opens the next level
-opened : (k : ℕ) (i : Item) → may_stand k i ≡ true → is_decided i.kind ≡ true → i.level ≡ suc k
+pub opened : (k : ℕ) (i : Item) → may_stand k i ≡ true → is_decided i.kind ≡ true → i.level ≡ suc k
 opened k i stands deciding =
     let same : nat_eq i.level (suc k) ≡ true = rw deciding at stands in
     eqb-true i.level (suc k) same

@@ -5,3 +5,10 @@ pub mod Back
 pub mod Frees
 pub mod Pictures
 pub mod Levels
+pub mod Clauses
+pub mod Pairs
+pub mod Reasons
+pub mod Decisions
+pub mod Kept
+pub mod Splits
+pub mod Reasoned

@@ -1,14 +1,16 @@
 -- What the picture says of the items of the code.
-use Rattle.std.proofs.Common.{◌≡◌, ℕ, Bool, true, false, cond, ◌&&◌, ◌||◌, nat_eq, nat_le, List, [], ◌∷◌, ◌++◌, filter, ℤ, neg_ℤ, nat_abs, is_some, refl, sym, ap, ◌∙◌, append_assoc, append-nil, inl, inr}
+use Rattle.std.proofs.Common.{◌≡◌, ℕ, Bool, true, false, cond, ◌&&◌, ◌||◌, nat_eq, nat_le, List, [], ◌∷◌, ◌++◌, length, filter, ℤ, neg_ℤ, nat_abs, is_some, refl, sym, ap, ◌∙◌, append_assoc, append-nil, inl, inr}
 use Rattle.std.specs.Ordering.{int_eq}
-use Rattle.std.proofs.lemmas.Bool.{cases_Bool}
-use Rattle.std.proofs.lemmas.List.Folds.{list_any-append}
+use Rattle.std.specs.List.{list_all, list_any}
+use Rattle.std.proofs.lemmas.Bool.{cases_Bool, and_parts, ltb-true}
+use Rattle.std.proofs.Math.ListN.{get_or-append}
+use Rattle.std.proofs.lemmas.List.Folds.{list_any-append, list_all-append}
 use Rattle.std.proofs.lemmas.List.Elements.{filter-append}
 use Rattle.search_region.specs.Trail as picture
 use Rattle.chrono_trail.specs.declared.item.Kind.{Kind}
 use Rattle.chrono_trail.specs.declared.item.Kind.TheVariants.{Assumed, Decided, Flipped, Turned, Implied}
 use Rattle.chrono_trail.specs.declared.item.Item.{Item}
-use Rattle.chrono_trail.specs.Items.{item_of, is_decided, depth_from, upto}
+use Rattle.chrono_trail.specs.Items.{item_of, is_decided, is_inside, are_inside, depth_from, upto}
 use Rattle.chrono_trail.specs.Clauses.{false_by}
 use Rattle.chrono_trail.specs.Pictures.{kind_of, pictured, picture_of}
 
@@ -23,6 +25,56 @@ decided_same clauses (Implied id) = refl
 pub picture-push : (clauses : List (List ℤ)) (items : List Item) (e : Item) → picture_of clauses (items ++ e ∷ []) ≡ pictured clauses e ∷ picture_of clauses items
 picture-push clauses [] e = refl
 picture-push clauses (i ∷ later) e = ap (λ rest. rest ++ pictured clauses i ∷ []) (picture-push clauses later e)
+
+or_swap : (a b : Bool) → (a || (b || false)) ≡ (b || a)
+or_swap true true = refl
+or_swap true false = refl
+or_swap false true = refl
+or_swap false false = refl
+
+and_swap : (a b : Bool) → (a && (b && true)) ≡ (b && a)
+and_swap true true = refl
+and_swap true false = refl
+and_swap false true = refl
+and_swap false false = refl
+
+-- items that follow are newer
+pub picture-append : (clauses : List (List ℤ)) (xs ys : List Item) → picture_of clauses (xs ++ ys) ≡ picture_of clauses ys ++ picture_of clauses xs
+picture-append clauses [] ys = sym (append-nil (picture_of clauses ys))
+picture-append clauses (x ∷ xs) ys =
+    ap (λ rest. rest ++ pictured clauses x ∷ []) (picture-append clauses xs ys)
+    ∙ append_assoc (picture_of clauses ys) (picture_of clauses xs) (pictured clauses x ∷ [])
+
+-- a test of the picture's items is one of the items
+pub all-picture : (clauses : List (List ℤ)) (p : picture.Item → Bool) (items : List Item) → list_all p (picture_of clauses items) ≡ list_all (λ i. p (pictured clauses i)) items
+all-picture clauses p [] = refl
+all-picture clauses p (i ∷ later) =
+    list_all-append p (picture_of clauses later) (pictured clauses i ∷ [])
+    ∙ ap (λ b. b && (p (pictured clauses i) && true)) (all-picture clauses p later)
+    ∙ and_swap (list_all (λ j. p (pictured clauses j)) later) (p (pictured clauses i))
+
+pub any-picture : (clauses : List (List ℤ)) (p : picture.Item → Bool) (items : List Item) → list_any p (picture_of clauses items) ≡ list_any (λ i. p (pictured clauses i)) items
+any-picture clauses p [] = refl
+any-picture clauses p (i ∷ later) =
+    list_any-append p (picture_of clauses later) (pictured clauses i ∷ [])
+    ∙ ap (λ b. b || (p (pictured clauses i) || false)) (any-picture clauses p later)
+    ∙ or_swap (list_any (λ j. p (pictured clauses j)) later) (p (pictured clauses i))
+
+-- a clause stays where others join behind it
+kind-grown : (clauses more : List (List ℤ)) (k : Kind) → is_inside (length clauses) k ≡ true → kind_of (clauses ++ more) k ≡ kind_of clauses k
+kind-grown clauses more Assumed h = refl
+kind-grown clauses more Decided h = refl
+kind-grown clauses more Flipped h = refl
+kind-grown clauses more (Turned id) h = ap picture.Turned (get_or-append clauses more [] id (ltb-true id (length clauses) h))
+kind-grown clauses more (Implied id) h = ap picture.Implied (get_or-append clauses more [] id (ltb-true id (length clauses) h))
+
+-- and the picture stays
+pub picture-grown : (clauses more : List (List ℤ)) (items : List Item) → are_inside (length clauses) items ≡ true → picture_of (clauses ++ more) items ≡ picture_of clauses items
+picture-grown clauses more [] h = refl
+picture-grown clauses more (i ∷ later) h =
+    let (now, rest) = and_parts (is_inside (length clauses) i.kind) (are_inside (length clauses) later) h in
+    ap (λ k. picture_of (clauses ++ more) later ++ record { lit = i.lit; level = i.level; kind = k } ∷ []) (kind-grown clauses more i.kind now)
+    ∙ ap (λ xs. xs ++ pictured clauses i ∷ []) (picture-grown clauses more later rest)
 
 depth_over : (clauses : List (List ℤ)) (items : List Item) (older : List picture.Item) → picture.depth (picture_of clauses items ++ older) ≡ depth_from (picture.depth older) items
 depth_over clauses [] older = refl
@@ -45,12 +97,6 @@ back-picture clauses k (i ∷ later) =
       | inl stays ↦ rw stays refl
       | inr leaves ↦ rw leaves (append-nil (picture_of clauses (filter (upto k) later)))
     ]
-
-or_swap : (a b : Bool) → (a || (b || false)) ≡ (b || a)
-or_swap true true = refl
-or_swap true false = refl
-or_swap false true = refl
-or_swap false false = refl
 
 -- what is false is so in the picture
 pub false_by-picture : (clauses : List (List ℤ)) (k : ℕ) (items : List Item) (l : ℤ) → picture.false_by k (picture_of clauses items) l ≡ false_by k items l

@@ -1,11 +1,11 @@
 -- The table of a trail.
-use Rattle.std.proofs.Common.{◌≡◌, ℕ, ◌-◌, ◌<◌, ◌≤◌, true, ◌&&◌, nat_eq, nat_lt, nat_le, List, [], ◌∷◌, ◌++◌, length, set, Option, Some, None, nat_abs, refl, sym, ap, subst, ◌∙◌, inl, inr, arith, length-set}
+use Rattle.std.proofs.Common.{◌≡◌, ℕ, ◌-◌, ◌<◌, ◌≤◌, true, ◌&&◌, nat_eq, nat_lt, nat_le, List, [], ◌∷◌, ◌++◌, length, set, Option, Some, None, nat_abs, refl, sym, ap, subst, ◌∙◌, inl, inr, arith, length-append, length-set}
 use Rattle.std.specs.List.{list_all}
 use Rattle.std.proofs.lemmas.Bool.{and_from, cases_Bool, eqb-true, eqb-false, lt-ltb, le-leb}
 use Rattle.std.proofs.lemmas.List.{get_or-set_same, get_or-set_other}
 use Rattle.std.proofs.lemmas.List.Folds.{list_all-append}
 use Rattle.chrono_trail.specs.declared.item.Item.{Item}
-use Rattle.chrono_trail.specs.Items.{item_of, is_within, level_after, may_stand}
+use Rattle.chrono_trail.specs.Items.{item_of, is_within, level_after, may_stand, decisions_from}
 use Rattle.chrono_trail.specs.Trails.{IsTrail, IsKept}
 use Rattle.chrono_trail.proofs.Items.{item_of-push, distinct_push, depth_from-append, stand_push}
 
@@ -19,11 +19,14 @@ trail_push n items level e t above below free stands = record {
   current = ap (λ k. level_after k e) t.current ∙ sym (depth_from-append 0 items (e ∷ []));
 }
 
-pub kept_push : (items : List Item) (given : List (Option Item)) (level capacity more : ℕ) (e : Item) → IsKept items given level capacity → 0 < nat_abs e.lit → nat_abs e.lit ≤ length given - 1 → item_of items (nat_abs e.lit) ≡ None → may_stand level e ≡ true → capacity ≤ more → IsKept (items ++ e ∷ []) (set given (nat_abs e.lit) (Some e)) (level_after level e) more
-kept_push items given level capacity more e k above below free stands wide =
+pub kept_push : (items : List Item) (given : List (Option Item)) (decided more : List ℕ) (seen level wide deep wider deeper : ℕ) (e : Item) → IsKept items given decided seen level wide deep → 0 < nat_abs e.lit → nat_abs e.lit ≤ length given - 1 → item_of items (nat_abs e.lit) ≡ None → may_stand level e ≡ true → more ≡ decisions_from 0 (items ++ e ∷ []) → wider ≡ wide → deeper ≡ deep → IsKept (items ++ e ∷ []) (set given (nat_abs e.lit) (Some e)) more seen (level_after level e) wider deeper
+kept_push items given decided more seen level wide deep wider deeper e k above below free stands stack same_wide same_deep =
     let same = length-set given (nat_abs e.lit) (Some e) in
     let places = k.places in
     let room = k.room in
+    let depth_room = k.depth_room in
+    let marked = k.marked in
+    let longer = length-append items (e ∷ []) in
     record {
       trail = subst (λ m. IsTrail (m - 1) (items ++ e ∷ []) (level_after level e)) (sym same) (trail_push (length given - 1) items level e k.trail above below free stands);
       places = omega arith;
@@ -31,5 +34,8 @@ kept_push items given level capacity more e k above below free stands wide =
         | inl now ↦ rw (item_of-push items e w free, now) (rw (eqb-true w (nat_abs e.lit) now) (get_or-set_same given (nat_abs e.lit) (Some e) None (omega arith)))
         | inr other ↦ rw (item_of-push items e w free, other) (get_or-set_other given (nat_abs e.lit) w (Some e) None (eqb-false w (nat_abs e.lit) other) ∙ k.tells w (omega arith))
       ];
+      stack = stack;
+      marked = omega arith;
       room = omega arith;
+      depth_room = omega arith;
     }

@@ -1,10 +1,12 @@
 -- Literals and clauses under a trail. A clause is the set of its literals. By `has_pair` of the
 -- picture a clause may hold a literal and its negation; as a trail has one literal of a variable,
 -- such a clause is never false or unit.
-use Rattle.std.specs.Prelude.{◌≡◌, ℕ, Bool, true, cond, ◌&&◌, ◌||◌, nat_le, max, List, [], ◌∷◌, ℤ, neg_ℤ, nat_abs, Option, Some, None}
+use Rattle.std.specs.Prelude.{◌≡◌, ℕ, Bool, true, false, cond, ◌&&◌, ◌||◌, nat_le, max, List, [], ◌∷◌, ℤ, neg_ℤ, nat_abs, Option, Some, None}
 use Rattle.std.specs.List.{list_any, list_all}
 use Rattle.std.specs.Ordering.{int_eq}
 use Rattle.sat_terms.specs.Cubes.{has_literal}
+use Rattle.chrono_trail.specs.declared.clause.Scanned.{Scanned}
+use Rattle.chrono_trail.specs.declared.clause.Scanned.TheVariants.{False, Unit as OfUnit, Neither}
 use Rattle.chrono_trail.specs.declared.item.Item.{Item}
 use Rattle.chrono_trail.specs.Items.{item_of}
 
@@ -44,3 +46,20 @@ abbrev pub rest_level : List Item → ℤ → List ℤ → ℕ
 rest_level items l [] = 0
 rest_level items l (m ∷ c) =
     max (cond (int_eq m l) 0 (level_or_zero (item_of items (nat_abs m)))) (rest_level items l c)
+
+-- The clause is neither false nor unit.
+pub record IsAtRest (items : List Item) (c : List ℤ) : Type 0 where
+  pub not_false : is_false_clause items c ≡ false
+  pub not_unit : (l : ℤ) → IsUnit items l c → ⊥
+
+-- What a scan of a clause tells.
+abbrev pub IsScan : List Item → List ℤ → Scanned → Type 0
+IsScan items c False = is_false_clause items c ≡ true
+IsScan items c (OfUnit l) = IsUnit items l c
+IsScan items c Neither = IsAtRest items c
+
+-- The clause is a reason for the item: it has the item's literal, and each other literal of it is
+-- false by an older item of at most the item's level.
+pub record IsReason (older : List Item) (i : Item) (c : List ℤ) : Type 0 where
+  pub among : has_literal c i.lit ≡ true
+  pub rest : list_all (λ m. int_eq m i.lit || false_by i.level older m) c ≡ true

@@ -1,6 +1,6 @@
 -- The items of a trail, the oldest first, and what they say of a variable.
-use Rattle.std.specs.Prelude.{◌≡◌, ℕ, suc, ◌<◌, Bool, true, false, cond, ◌&&◌, nat_eq, nat_lt, nat_le, List, [], ◌∷◌, length, find, slice_index_or, ℤ, nat_abs, Option, Some, None, is_none}
-use Rattle.std.specs.List.{list_any}
+use Rattle.std.specs.Prelude.{◌≡◌, ℕ, suc, ◌-◌, ◌<◌, Bool, true, false, cond, ◌&&◌, nat_eq, nat_lt, nat_le, List, [], ◌∷◌, length, find, take, slice_index_or, slice_get, ℤ, nat_abs, Option, Some, None, is_none}
+use Rattle.std.specs.List.{list_any, list_all}
 use Rattle.std.specs.Ordering.{int_eq}
 use Rattle.chrono_trail.specs.declared.item.Kind.{Kind}
 use Rattle.chrono_trail.specs.declared.item.Kind.TheVariants.{Assumed, Decided, Flipped, Turned, Implied}
@@ -13,6 +13,30 @@ is_decided Decided = true
 is_decided Flipped = false
 is_decided (Turned id) = false
 is_decided (Implied id) = false
+
+-- The item is a decision of level k.
+abbrev pub decides : ℕ → Item → Bool
+decides k i = is_decided i.kind && nat_eq i.level k
+
+-- The number of the clause that a kind names, where it names one.
+abbrev pub reason_id : Kind → Option ℕ
+reason_id Assumed = None
+reason_id Decided = None
+reason_id Flipped = None
+reason_id (Turned id) = Some id
+reason_id (Implied id) = Some id
+
+-- The clause that a kind names, where it names one, is one of the first m.
+abbrev pub is_inside : ℕ → Kind → Bool
+is_inside m Assumed = true
+is_inside m Decided = true
+is_inside m Flipped = true
+is_inside m (Turned id) = nat_lt id m
+is_inside m (Implied id) = nat_lt id m
+
+-- Each item names at most clauses among the first m.
+abbrev pub are_inside : ℕ → List Item → Bool
+are_inside m items = list_all (λ i. is_inside m i.kind) items
 
 -- The item of a variable, where it has one.
 abbrev pub item_of : List Item → ℕ → Option Item
@@ -35,6 +59,20 @@ upto k i = nat_le i.level k
 -- The item at the place n, where there is one, is above level k.
 abbrev pub IsAboveAt : ℕ → List Item → ℕ → Type 0
 IsAboveAt k items n = (d : Item) → n < length items → upto k (slice_index_or items n d) ≡ false
+
+-- The decision of level k stands at the place n: it is the first one, and no item before it is of
+-- level k or above.
+pub record IsDecisionAt (k : ℕ) (items : List Item) (n : ℕ) : Type 0 where
+  pub inside : n < length items
+  pub opens : (d : Item) → decides k (slice_index_or items n d) ≡ true
+  pub found : find (decides k) items ≡ slice_get items n
+  pub low : list_all (upto (k - 1)) (take n items) ≡ true
+
+-- The places of the decisions among the items, the oldest first, where n items stand before them.
+abbrev pub decisions_from : ℕ → List Item → List ℕ
+decisions_from n [] = []
+decisions_from n (i ∷ later) =
+    cond (is_decided i.kind) (n ∷ decisions_from (suc n) later) (decisions_from (suc n) later)
 
 -- The item is of one of the variables 1 to n.
 abbrev pub is_within : ℕ → Item → Bool

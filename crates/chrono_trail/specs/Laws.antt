@@ -1,13 +1,14 @@
--- The laws of trails: how decisions and levels lie.
-use Rattle.std.specs.Prelude.{◌≡◌, ℕ, ◌<◌, ◌≤◌, Bool, true, false, ◌&&◌, nat_eq, List, [], ◌∷◌, ◌++◌, filter, map}
-use Rattle.std.specs.List.{list_any, list_all, range_with_len}
+-- The laws of trails: how decisions and levels lie, and what the picture says of clauses.
+use Rattle.std.specs.Prelude.{◌≡◌, ℕ, ◌-◌, ◌<◌, ◌≤◌, true, false, ℤ, nat_abs, List, [], ◌∷◌, ◌++◌, length, filter, find, map, Some, None}
+use Rattle.std.specs.List.{All, list_any, list_all, range_with_len}
+use Rattle.sat_terms.specs.Literals.{IsLiteral, IsLiteralOf}
+use Rattle.sat_terms.specs.Cubes.{has_pair}
+use Rattle.search_region.specs.Trail.{back, is_reason}
 use Rattle.chrono_trail.specs.declared.item.Item.{Item}
-use Rattle.chrono_trail.specs.Items.{is_decided, upto, depth_from}
+use Rattle.chrono_trail.specs.Items.{item_of, is_decided, decides, upto, depth_from, are_distinct, are_inside}
 use Rattle.chrono_trail.specs.Trails.{IsTrail}
-
--- The item is a decision of level k.
-abbrev pub decides : ℕ → Item → Bool
-decides k i = is_decided i.kind && nat_eq i.level k
+use Rattle.chrono_trail.specs.Clauses.{IsAtRest, IsReason}
+use Rattle.chrono_trail.specs.Pictures.{pictured, picture_of, Splits}
 
 -- Just one of the items is a decision of level k: none before it is one, and none after it.
 pub record HasOneDecision (items : List Item) (k : ℕ) : Type 0 where
@@ -48,3 +49,51 @@ NoneAboveTheCurrent = (n : ℕ) (items : List Item) (level : ℕ) → IsTrail n 
 abbrev pub LowItemsStay : Type 0
 LowItemsStay = (n : ℕ) (items : List Item) (level k : ℕ) → IsTrail n items level → k ≤ level →
     IsTrail n (filter (upto k) items) k
+
+-- The decision of a level from 1 to the current one can be found.
+abbrev pub DecisionsAreFound : Type 0
+DecisionsAreFound = (n : ℕ) (items : List Item) (level k : ℕ) → IsTrail n items level →
+    0 < k → k ≤ level → (d : Item) × (find (decides k) items ≡ Some d)
+
+-- The decision of a level splits the items, and the picture with them.
+abbrev pub DecisionsSplitThePicture : Type 0
+DecisionsSplitThePicture = (clauses : List (List ℤ)) (items : List Item) (k : ℕ) (d : Item) →
+    find (decides k) items ≡ Some d → Splits clauses items k d
+
+-- Its variable is one of the trail's.
+abbrev pub DecisionsAreWithin : Type 0
+DecisionsAreWithin = (n : ℕ) (items : List Item) (level k : ℕ) (d : Item) →
+    IsTrail n items level → find (decides k) items ≡ Some d → IsLiteralOf n d.lit
+
+-- Once its level is taken back, the variable of a decision is unassigned.
+abbrev pub BacktrackingFreesTheDecision : Type 0
+BacktrackingFreesTheDecision = (n : ℕ) (items : List Item) (level k : ℕ) (d : Item) →
+    IsTrail n items level → 0 < k → find (decides k) items ≡ Some d →
+    item_of (filter (upto (k - 1)) items) (nat_abs d.lit) ≡ None
+
+-- Items that follow are newer in the picture.
+abbrev pub AppendedItemsAreNewer : Type 0
+AppendedItemsAreNewer = (clauses : List (List ℤ)) (xs ys : List Item) →
+    picture_of clauses (xs ++ ys) ≡ picture_of clauses ys ++ picture_of clauses xs
+
+-- Levels that are taken back are taken back in the picture.
+abbrev pub BacktrackingIsPictured : Type 0
+BacktrackingIsPictured = (clauses : List (List ℤ)) (k : ℕ) (items : List Item) →
+    picture_of clauses (filter (upto k) items) ≡ back k (picture_of clauses items)
+
+-- Clauses that join behind those that the items name change nothing in the picture.
+abbrev pub MoreClausesKeepThePicture : Type 0
+MoreClausesKeepThePicture = (clauses more : List (List ℤ)) (items : List Item) →
+    are_inside (length clauses) items ≡ true →
+    picture_of (clauses ++ more) items ≡ picture_of clauses items
+
+-- Where no two items are of one variable, a clause with a literal and its negation is neither false
+-- nor unit.
+abbrev pub PairsAreAtRest : Type 0
+PairsAreAtRest = (items : List Item) (c : List ℤ) → are_distinct items ≡ true → All IsLiteral c →
+    has_pair c ≡ true → IsAtRest items c
+
+-- A reason is one in the picture of the search too.
+abbrev pub ReasonsStandInThePicture : Type 0
+ReasonsStandInThePicture = (clauses : List (List ℤ)) (older : List Item) (i : Item) (c : List ℤ) →
+    IsReason older i c → is_reason c (pictured clauses i) (picture_of clauses older) ≡ true

@@ -3,3 +3,4 @@ pub mod Trails
 pub mod Clauses
 pub mod Pictures
 pub mod Laws
+pub mod Reasons

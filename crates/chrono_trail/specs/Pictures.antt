@@ -1,6 +1,6 @@
 -- The items of the code as the trail of the picture, which has the newest item first and clauses in
 -- place of their numbers.
-use Rattle.std.specs.Prelude.{List, [], ◌∷◌, ◌++◌, ℤ, slice_index_or}
+use Rattle.std.specs.Prelude.{◌≡◌, ℕ, List, [], ◌∷◌, ◌++◌, ℤ, slice_index_or}
 use Rattle.search_region.specs.Trail as picture
 use Rattle.chrono_trail.specs.declared.item.Kind.{Kind}
 use Rattle.chrono_trail.specs.declared.item.Kind.TheVariants.{Assumed, Decided, Flipped, Turned, Implied}
@@ -21,3 +21,14 @@ pictured clauses i = record { lit = i.lit; level = i.level; kind = kind_of claus
 abbrev pub picture_of : List (List ℤ) → List Item → List picture.Item
 picture_of clauses [] = []
 picture_of clauses (i ∷ later) = picture_of clauses later ++ pictured clauses i ∷ []
+
+-- The decision d of level k parts the items into those before it and those after it, and the
+-- picture in the same way.
+pub record Splits (clauses : List (List ℤ)) (items : List Item) (k : ℕ) (d : Item) : Type 0 where
+  pub before : List Item
+  pub after : List Item
+  pub parts : items ≡ before ++ d ∷ after
+  pub kind : d.kind ≡ Decided
+  pub level : d.level ≡ k
+  pub picture : picture_of clauses items
+      ≡ picture_of clauses after ++ pictured clauses d ∷ picture_of clauses before

@@ -11,9 +11,11 @@
 //! proved over.
 #![tactic(auto)]
 
+mod clause;
 mod item;
 pub mod laws;
 mod trail;
 
+pub use clause::{Scanned, level_of_rest, scan};
 pub use item::{Item, Kind};
 pub use trail::Trail;

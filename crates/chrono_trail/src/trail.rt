@@ -1,11 +1,12 @@
 //! The trail, with a table of its items by variable.
 ghost use Rattle.std.specs.Prelude.{◌≡◌, ℕ, ◌+◌, ◌<◌, ◌≤◌, ◌^◌, ◌++◌, true, false, cond, [], ◌∷◌};
 ghost use Rattle.std.specs.Prelude.{None, IfOk, nat_abs, length, slice_set, slice_index_or, filter};
-ghost use Rattle.std.specs.Prelude.{take, vec_len, vec_capacity};
+ghost use Rattle.std.specs.Prelude.{take, nat_eq, vec_capacity};
 ghost use Rattle.std.specs.List.{All, list_all};
 ghost use Rattle.chrono_trail.specs.Items.{item_of, level_in, value_in, is_decided, upto};
-ghost use Rattle.chrono_trail.specs.Items.{depth_from, may_all_stand, IsAboveAt, HasPlace, goes};
-ghost use Rattle.chrono_trail.specs.Trails.{IsTrail};
+ghost use Rattle.chrono_trail.specs.Items.{depth_from, may_all_stand, decisions_from};
+ghost use Rattle.chrono_trail.specs.Items.{IsDecisionAt, IsAboveAt, HasPlace, goes};
+ghost use Rattle.chrono_trail.specs.Trails.{IsTrail, seen_back};
 
 use crate::item::{Item, Kind};
 use std::alloc::{AllocError, Global};
@@ -16,7 +17,9 @@ use std::marker::Model;
 pub struct Trail {
     items: Vec<Item>,
     given: Vec<Option<Item>>,
+    decided: Vec<u32>,
     level: u32,
+    seen: usize,
 }
 
 impl Model for Trail {
@@ -25,9 +28,15 @@ impl Model for Trail {
 
     ghost Value = { TrailView };
 
-    ghost view = { λ t. record { variables = length t.given.items - 1; items = t.items.items; level = t.level } };
+    ghost view = { λ t. record {
+      variables = length t.given.items - 1;
+      items = t.items.items;
+      level = t.level;
+      seen = t.seen;
+    } };
 
-    ghost invariant = { λ t. IsKept t.items.items t.given.items t.level (vec_capacity t.items) };
+    ghost invariant = { λ t. IsKept t.items.items t.given.items t.decided.items t.seen t.level
+        (vec_capacity t.items) (vec_capacity t.decided) };
 }
 
 impl Trail {
@@ -38,12 +47,15 @@ impl Trail {
         ensures variables { IfOk result (λ trail. trail.variables ≡ variables) }
         ensures items { IfOk result (λ trail. trail.items ≡ []) }
         ensures level { IfOk result (λ trail. trail.level ≡ 0) }
+        ensures seen { IfOk result (λ trail. trail.seen ≡ 0) }
     {
         let places = variables as usize + 1;
         Ok(Trail {
             items: Vec::with_capacity(alloc, variables as usize)?,
             given: vec![in alloc; None; places]?,
+            decided: Vec::with_capacity(alloc, variables as usize)?,
             level: 0,
+            seen: 0,
         })
     }
 
@@ -80,10 +92,44 @@ impl Trail {
         requires { variable ≤ self.now.variables }
         ensures { result ≡ level_in (item_of self.now.items variable) }
     {
-        match self.given[variable as usize] {
+        match self.item(variable) {
             Some(item) => Some(item.level),
             None => None,
         }
+    }
+
+    /// The item of a variable; None where it is unassigned. It looks at one place.
+    pub fn item(&self, variable: u32) -> Option<Item>
+        requires { variable ≤ self.now.variables }
+        ensures { result ≡ item_of self.now.items variable }
+    {
+        self.given[variable as usize]
+    }
+
+    /// The place of the decision of a level among the items. It looks at one place.
+    pub fn decision(&self, level: u32) -> usize
+        requires some { 0 < level }
+        requires within { level ≤ self.now.level }
+        ensures { IsDecisionAt level self.now.items result }
+    {
+        place_of(self.items.as_slice(), self.decided.as_slice(), level)
+    }
+
+    /// How many of the oldest items are marked as seen. The mark is its user's, who propagates them
+    /// in this order.
+    pub fn seen(&self) -> usize
+        ensures seen { result ≡ self.now.seen }
+        ensures within { result ≤ length self.now.items }
+    {
+        self.seen
+    }
+
+    /// Marks the oldest items as seen, so many of them, and no other.
+    pub fn see(&mut self, count: usize)
+        requires { count ≤ length self.old.items }
+        ensures { self.new ≡ record self.old { seen = count } }
+    {
+        self.seen = count;
     }
 
     /// Appends a literal of an unassigned variable, on the current level or one below.
@@ -93,9 +139,12 @@ impl Trail {
         requires unassigned { item_of self.old.items (nat_abs lit) ≡ None }
         requires below { level ≤ self.old.level }
         requires undecided { is_decided kind ≡ false }
-        ensures items { self.new.items ≡ self.old.items ++ record { lit = lit; level = level; kind = kind } ∷ [] }
+        ensures items { self.new.items
+            ≡ self.old.items ++ record { lit = lit; level = level; kind = kind } ∷ [] }
         ensures level { self.new.level ≡ self.old.level }
         ensures variables { self.new.variables ≡ self.old.variables }
+        ensures seen { self.new.seen ≡ self.old.seen }
+        ensures trail { IsTrail self.new.variables self.new.items self.new.level }
     {
         put(&mut self.items, &mut self.given, Item { lit, level, kind });
     }
@@ -105,11 +154,16 @@ impl Trail {
         requires named { 0 < nat_abs lit }
         requires within { nat_abs lit ≤ self.old.variables }
         requires unassigned { item_of self.old.items (nat_abs lit) ≡ None }
-        ensures items { self.new.items ≡ self.old.items ++ record { lit = lit; level = self.old.level + 1; kind = Kind.Decided } ∷ [] }
+        ensures items { self.new.items
+            ≡ self.old.items
+            ++ record { lit = lit; level = self.old.level + 1; kind = Kind.Decided } ∷ [] }
         ensures level { self.new.level ≡ self.old.level + 1 }
         ensures variables { self.new.variables ≡ self.old.variables }
+        ensures seen { self.new.seen ≡ self.old.seen }
+        ensures trail { IsTrail self.new.variables self.new.items self.new.level }
     {
         let level = self.level + 1;
+        let place = self.items.len() as u32;
         put(
             &mut self.items,
             &mut self.given,
@@ -119,6 +173,7 @@ impl Trail {
                 kind: Kind::Decided,
             },
         );
+        self.decided.push_reserved(place);
         self.level = level;
     }
 
@@ -129,13 +184,18 @@ impl Trail {
         ensures items { self.new.items ≡ filter (upto level) self.old.items }
         ensures level { self.new.level ≡ level }
         ensures variables { self.new.variables ≡ self.old.variables }
+        ensures seen { self.new.seen ≡ seen_back level self.old }
+        ensures trail { IsTrail self.new.variables self.new.items self.new.level }
     {
         if level == self.level {
+            self.seen = seen_at(level, self.seen);
             return;
         }
-        let start = first_above(self.items.as_slice(), self.level, level);
+        let start = place_of(self.items.as_slice(), self.decided.as_slice(), level + 1);
         free(&mut self.given, &self.items[start..], level + 1);
-        keep_upto(&mut self.items, start, level);
+        let kept = keep_upto(&mut self.items, start, level, self.seen);
+        self.seen = seen_at(level, kept);
+        self.decided.truncate(level as usize);
         self.level = level;
     }
 
@@ -144,10 +204,13 @@ impl Trail {
         ensures items { self.new.items ≡ [] }
         ensures level { self.new.level ≡ 0 }
         ensures variables { self.new.variables ≡ self.old.variables }
+        ensures seen { self.new.seen ≡ 0 }
     {
         free(&mut self.given, self.items.as_slice(), 0);
         self.items.clear();
+        self.decided.clear();
         self.level = 0;
+        self.seen = 0;
     }
 }
 
@@ -157,34 +220,28 @@ fn put(items: &mut Vec<Item>, given: &mut Vec<Option<Item>>, item: Item)
     requires place { nat_abs item.lit < length given.old.items }
     ensures items { items.new.items ≡ items.old.items ++ item ∷ [] }
     ensures given { given.new.items ≡ slice_set given.old.items (nat_abs item.lit) (Some item) }
-    ensures capacity { vec_capacity items.old ≤ vec_capacity items.new }
+    ensures capacity { vec_capacity items.new ≡ vec_capacity items.old }
 {
-    let pushed = items.push(item);
-    if pushed.is_err() {
-        unreachable!()
-    }
+    items.push_reserved(item);
     given[item.lit.unsigned_abs() as usize] = Some(item);
 }
 
-/// The place of the first item above the level, or the number of items: from the newest on, as many
-/// decisions are passed as there are levels to go.
-fn first_above(items: &[Item], current: u32, level: u32) -> usize
-    requires below { level ≤ current }
+/// The place of the decision of a level. The stack tells it.
+fn place_of(items: &[Item], decided: &[u32], level: u32) -> usize
+    requires stack { decided.now ≡ decisions_from 0 items.now }
     requires stands { may_all_stand 0 items.now ≡ true }
-    requires current { current ≡ depth_from 0 items.now }
-    ensures within { result ≤ length items.now }
-    ensures low { list_all (upto level) (take result items.now) ≡ true }
-    ensures first { IsAboveAt level items.now result }
+    requires some { 0 < level }
+    requires within { level ≤ depth_from 0 items.now }
+    ensures { IsDecisionAt level items.now result }
 {
-    let mut start = items.len();
-    let mut above = current - level;
-    while above > 0 {
-        start -= 1;
-        if items[start].kind.is_decided() {
-            above -= 1;
-        }
-    }
-    start
+    decided[level as usize - 1] as usize
+}
+
+/// How many items are marked as seen on a level, where so many of the marked ones stayed.
+fn seen_at(level: u32, kept: usize) -> usize
+    ensures { result ≡ cond (nat_eq level 0) 0 kept }
+{
+    if level == 0 { 0 } else { kept }
 }
 
 /// Empties the places of those of the items whose level is at least `least`.
@@ -192,7 +249,8 @@ fn free(given: &mut Vec<Option<Item>>, items: &[Item], least: u32)
     requires small { length given.old.items ≤ 2 ^ 31 }
     requires places { All (HasPlace (length given.old.items)) items.now }
     ensures length { length given.new.items ≡ length given.old.items }
-    ensures places { (v : ℕ) → slice_index_or given.new.items v None ≡ cond (goes least items.now v) None (slice_index_or given.old.items v None) }
+    ensures places { (v : ℕ) → slice_index_or given.new.items v None
+        ≡ cond (goes least items.now v) None (slice_index_or given.old.items v None) }
 {
     for item in items {
         if item.level >= least {
@@ -202,22 +260,29 @@ fn free(given: &mut Vec<Option<Item>>, items: &[Item], least: u32)
 }
 
 /// Keeps the items of this level and below, in their order. Those before `start` are, and are not
-/// looked at.
-fn keep_upto(items: &mut Vec<Item>, start: usize, level: u32)
+/// looked at; the one at `start` goes. Answers how many of the first `seen` it keeps.
+fn keep_upto(items: &mut Vec<Item>, start: usize, level: u32, seen: usize) -> usize
     requires within { start ≤ length items.old.items }
+    requires first { IsAboveAt level items.old.items start }
     requires low { list_all (upto level) (take start items.old.items) ≡ true }
     ensures items { items.new.items ≡ filter (upto level) items.old.items }
     ensures capacity { vec_capacity items.new ≡ vec_capacity items.old }
+    ensures seen { result ≡ length (filter (upto level) (take seen items.old.items)) }
 {
     let mut kept = start;
+    let mut kept_seen = start.min(seen);
     for at in start..items.len() {
         let item = items[at];
         if item.level <= level {
             items[kept] = item;
             kept += 1;
+            if at < seen {
+                kept_seen += 1;
+            }
         }
     }
     items.truncate(kept);
+    kept_seen
 }
 
 #[cfg(test)]
@@ -233,9 +298,13 @@ mod tests {
         trail.assign(2, 1, Kind::Implied(0));
         trail.assign(-3, 0, Kind::Implied(1));
         assert_eq!(rt; trail.level(), 1);
+        assert_eq!(rt; trail.decision(1), 0);
+        assert_eq!(rt; trail.item(3).map(|item| item.level), Some(0));
         assert_eq!(rt; trail.value(1), Some(false));
         assert_eq!(rt; trail.level_of(2), Some(1));
+        trail.see(3);
         trail.backtrack(0);
+        assert_eq!(rt; trail.seen(), 0);
         assert_eq!(rt;
             trail.items(),
             [Item {

@@ -1,5 +1,5 @@
 -- What each arena keeps, as clauses come and go.
-use Rattle.std.proofs.Common.{◌≡◌, ℕ, ◌+◌, ◌-◌, ◌<◌, ◌≤◌, List, [], ◌∷◌, ◌++◌, length, take, drop, map, get_or, ℤ, not, nat_abs, sym, ap, subst, arith, length-drop}
+use Rattle.std.proofs.Common.{◌≡◌, ℕ, ◌+◌, ◌-◌, ◌<◌, ◌≤◌, List, [], ◌∷◌, ◌++◌, length, take, drop, map, get_or, ℤ, not, nat_abs, sym, ap, subst, arith, length-append, length-take, length-drop}
 use Rattle.std.specs.List.{All}
 use Rattle.std.proofs.lemmas.List.{drop-append-le, drop-take, drop_all, get_or-drop}
 use Rattle.std.proofs.lemmas.List.Elements.{All-nil, All-cons, All-head, All-tail, All-push, All-take, All-map, All-filter}
@@ -31,6 +31,7 @@ literal_of n small l h = let below = h.1 in (h.0, omega arith)
 pub arena_made : (n : ℕ) (f clauses : List (List ℤ)) (base : ℕ) → IsFormula n f → clauses ≡ map once f →
     base ≡ length clauses → IsArena (record { clauses = clauses; base = base })
 arena_made n f clauses base g is all = record {
+  based = omega arith;
   literals = subst (All (All IsLiteral)) (sym is) (All-map (All IsLiteral) once f literals);
   once =
       subst (All HasEachOnce) (sym is)
@@ -50,6 +51,7 @@ pub arena_grown : (clauses : List (List ℤ)) (base : ℕ) (c : List ℤ) → ba
     IsArena (record { clauses = clauses; base = base }) → All IsLiteral c → HasDistinctVariables c →
     IsArena (record { clauses = clauses ++ c ∷ []; base = base })
 arena_grown clauses base c based h literals apart = record {
+  based = let long = length-append clauses (c ∷ []) in omega arith;
   literals = All-push (All IsLiteral) clauses c h.literals literals;
   once =
       All-push HasEachOnce clauses c h.once
@@ -60,12 +62,13 @@ arena_grown clauses base c based h literals apart = record {
 }
 
 -- the first k clauses
-pub arena_popped : (clauses : List (List ℤ)) (base k : ℕ) → base ≤ k →
+pub arena_popped : (clauses : List (List ℤ)) (base k : ℕ) → base ≤ k → k ≤ length clauses →
     IsArena (record { clauses = clauses; base = base }) →
     IsArena (record { clauses = take k clauses; base = base })
-arena_popped clauses base k above h =
+arena_popped clauses base k above low h =
     let split : base + (k - base) ≡ k = omega arith in
     record {
+      based = let long = length-take k clauses in omega arith;
       literals = All-take (All IsLiteral) k clauses h.literals;
       once = All-take HasEachOnce k clauses h.once;
       variables =

@@ -82,7 +82,7 @@ laid_popped lits ends base k s h above inside is =
     record {
       arena =
           subst (λ cs. IsArena (record { clauses = cs; base = base })) (sym (pieces_popped lits ends k s h.filled inside is))
-          (arena_popped (pieces lits 0 ends) base k above h.arena);
+          (arena_popped (pieces lits 0 ends) base k above (let many = length-pieces lits 0 ends in omega arith) h.arena);
       filled = subst (AreEnds 0 (take k ends)) (sym is ∙ long) (ends_taken 0 ends (length lits) k h.filled inside);
       based = omega arith;
       clauses = h.clauses;

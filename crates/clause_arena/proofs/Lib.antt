@@ -4,3 +4,5 @@ pub mod Literals
 pub mod Making
 pub mod Marks
 pub mod Pieces
+pub mod Meaning
+pub mod Short

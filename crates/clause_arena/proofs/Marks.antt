@@ -1,34 +1,15 @@
 -- The table of stamps: which literals a clause had so far.
-use Rattle.std.proofs.Common.{◌≡◌, ◌≢◌, ℕ, ◌+◌, ◌*◌, ◌<◌, Bool, true, false, ◌||◌, nat_eq, List, [], ◌∷◌, length, take, set, get_or, ℤ, pos, negsuc, refl, sym, ap, ap₂, ◌∙◌, inl, inr, arith, get_or-set_same, get_or-set_other, length-set}
+use Rattle.std.proofs.Common.{◌≡◌, ◌≢◌, ℕ, ◌+◌, ◌<◌, Bool, true, false, ◌||◌, nat_eq, List, [], ◌∷◌, length, take, set, get_or, ℤ, pos, refl, sym, ap, ap₂, ◌∙◌, inl, inr, arith, get_or-set_same, get_or-set_other, length-set}
 use Rattle.std.specs.List.{All, list_any}
-use Rattle.std.specs.Ordering.{int_eq}
-use Rattle.std.proofs.lemmas.Bool.{cases_eq, eq-eqb, ne_eqb, false_from_ne_true}
-use Rattle.std.proofs.lemmas.Bool.Decides.{Decides-int_eq}
+use Rattle.std.proofs.lemmas.Bool.{cases_eq, eq-eqb, ne_eqb}
 use Rattle.std.proofs.lemmas.List.Folds.{list_any_more}
-use Rattle.sat_terms.proofs.Keys.{same_from_keys}
+use Rattle.sat_terms.proofs.Keys.{key_test}
 use Rattle.sat_terms.specs.CubeOrder.{key}
 use Rattle.sat_terms.specs.Cubes.{has_literal}
-use Rattle.sat_terms.specs.Literals.{IsLiteralOf}
-
-same_from_key : (l m : ℤ) → key l ≡ key m → l ≡ m
-same_from_key l m h = let same : l ∷ [] ≡ m ∷ [] = same_from_keys (l ∷ []) (m ∷ []) (ap (λ k. k ∷ []) h) in cc
-
--- a literal is known by its place
-key_test : (l m : ℤ) → nat_eq (key l) (key m) ≡ int_eq l m
-key_test l m =
-    elim (cases_eq (key l) (key m)) [
-      | inl same ↦ eq-eqb (key l) (key m) same ∙ sym ((Decides-int_eq l m).1 (same_from_key l m same))
-      | inr differs ↦ ne_eqb (key l) (key m) differs ∙ sym (false_from_ne_true (int_eq l m) (λ e. differs (ap key ((Decides-int_eq l m).0 e))))
-    ]
 
 pub key_among : (l : ℤ) (c : List ℤ) → list_any (λ m. nat_eq (key l) (key m)) c ≡ has_literal c l
 key_among l [] = refl
 key_among l (m ∷ c) = ap₂ (λ a b. a || b) (key_test l m) (key_among l c)
-
--- the table has a place for each literal of the variables
-pub key-lt : (n : ℕ) (l : ℤ) → IsLiteralOf n l → key l < 2 * (n + 1)
-key-lt n (pos v) h = let le = h.1 in omega arith
-key-lt n (negsuc v) h = let le = h.1 in omega arith
 
 -- one more literal, which has the stamp now
 tells_step : (stamps : List ℕ) (stamp : ℕ) (c : List ℤ) (i : ℕ) (l : ℤ) → i < length c → l ≡ get_or c i (pos 0) → get_or stamps (key l) 0 ≡ stamp →

@@ -1,5 +1,5 @@
 -- What contracts see of an arena.
-use Rattle.std.specs.Prelude.{◌≢◌, ℕ, ◌+◌, Bool, ◌&&◌, nat_lt, nat_le, List, length, drop, ℤ, nat_abs}
+use Rattle.std.specs.Prelude.{◌≢◌, ℕ, ◌+◌, ◌≤◌, Bool, ◌&&◌, nat_lt, nat_le, List, ◌++◌, length, take, drop, filter, ℤ, nat_abs}
 use Rattle.std.specs.List.{All, AllPairs, sum_by}
 use Rattle.sat_terms.specs.Literals.{IsLiteral}
 use Rattle.clause_arena.specs.Once.{HasEachOnce}
@@ -18,8 +18,9 @@ abbrev pub HasDistinctVariables : List ℤ → Type 0
 HasDistinctVariables c = AllPairs (λ l m. nat_abs l ≢ nat_abs m) c
 
 -- Each clause is of literals, each of them once, and a lemma has each variable once. A clause of
--- the formula may have a literal and its negation.
+-- the formula may have a literal and its negation. All clauses of the formula are there.
 pub record IsArena (arena : Clauses) : Type 0 where
+  pub based : arena.base ≤ length arena.clauses
   pub literals : All (All IsLiteral) arena.clauses
   pub once : All HasEachOnce arena.clauses
   pub variables : All HasDistinctVariables (lemmas arena)
@@ -30,3 +31,8 @@ abbrev pub has_room : Clauses → ℕ → Bool
 has_room arena count =
     nat_lt (length (lemmas arena)) 1000000
     && nat_le (sum_by length (lemmas arena) + count) 16000000
+
+-- The first `base` clauses, and of those behind them the ones of at most `keep` literals.
+abbrev pub without_long : ℕ → ℕ → List (List ℤ) → List (List ℤ)
+without_long base keep clauses =
+    take base clauses ++ filter (λ c. nat_le (length c) keep) (drop base clauses)

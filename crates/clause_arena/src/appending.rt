@@ -4,15 +4,8 @@ ghost use Rattle.std.specs.List.{All};
 ghost use Rattle.sat_terms.specs.CubeOrder.{key};
 ghost use Rattle.clause_arena.specs.Once.{once};
 
+use sat_terms::place_of;
 use std::alloc::AllocError;
-
-/// The place of a literal in a table of all literals: 2v for -v, and 2v + 1 for v.
-fn place_of(lit: i32) -> usize
-    ensures { result ≡ key lit }
-{
-    let double = 2 * lit.unsigned_abs() as usize;
-    if lit < 0 { double } else { double + 1 }
-}
 
 /// Appends the literals of a clause, each once. The table tells which literals the clause had so
 /// far: those that bear its stamp. So no pass has to clear the table, where each clause has a

@@ -5,9 +5,10 @@ ghost use Rattle.std.specs.List.{All};
 ghost use Rattle.sat_terms.specs.Literals.{IsLiteral, IsLiteralOf};
 ghost use Rattle.sat_terms.specs.Subjects.{IsFormula};
 ghost use Rattle.clause_arena.specs.Once.{once, HasEachOnce};
-ghost use Rattle.clause_arena.specs.Clauses.{IsArena, HasDistinctVariables, has_room};
+ghost use Rattle.clause_arena.specs.Clauses.{IsArena, HasDistinctVariables, has_room, without_long};
 
 use crate::appending::append_once;
+use crate::dropping::drop_long;
 use sat_terms::Formula;
 use std::alloc::{AllocError, Global};
 use std::marker::Model;
@@ -34,13 +35,16 @@ impl Model for Arena {
 
     ghost Value = { Clauses };
 
-    ghost view = { λ arena. record { clauses = pieces arena.lits.items 0 arena.ends.items; base = arena.base } };
+    ghost view = { λ arena. record {
+      clauses = pieces arena.lits.items 0 arena.ends.items;
+      base = arena.base;
+    } };
 
     ghost invariant = { λ arena. IsLaidOut arena.lits.items arena.ends.items arena.base };
 }
 
 /// The place at which a clause begins: where the one before it ends.
-fn start_of(ends: &[u32], id: u32) -> u32
+pub(crate) fn start_of(ends: &[u32], id: u32) -> u32
     requires { id ≤ length ends.now }
     ensures { result ≡ slice_index (0 ∷ ends.now) id }
 {
@@ -67,7 +71,8 @@ impl Arena {
         requires { IsFormula formula.now.variables formula.now.clauses }
         ensures clauses { IfOk result (λ arena. arena.clauses ≡ map once formula.now.clauses) }
         ensures base { IfOk result (λ arena. arena.base ≡ length formula.now.clauses) }
-        ensures variables { IfOk result (λ arena. All (All (IsLiteralOf formula.now.variables)) arena.clauses) }
+        ensures variables { IfOk result
+            (λ arena. All (All (IsLiteralOf formula.now.variables)) arena.clauses) }
     {
         let mut lits = Vec::new(alloc);
         let mut ends = Vec::new(alloc);
@@ -122,6 +127,16 @@ impl Arena {
         let start = start_of(&self.ends, last as u32);
         self.ends.truncate(last);
         self.lits.truncate(start as usize);
+    }
+
+    /// Drops the lemmas of more than `keep` literals. The others stay, in their order, as do the
+    /// clauses of the formula, but the ids of lemmas change. It takes no memory. The time is that
+    /// of one walk over the lemmas.
+    pub fn drop_lemmas(&mut self, keep: usize)
+        ensures clauses { self.new.clauses ≡ without_long self.old.base keep self.old.clauses }
+        ensures base { self.new.base ≡ self.old.base }
+    {
+        drop_long(&mut self.lits, &mut self.ends, self.base, keep);
     }
 
     /// The literals of a clause, in the order in which it was given. Constant time.

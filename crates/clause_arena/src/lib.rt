@@ -6,6 +6,7 @@
 
 mod appending;
 mod arena;
+mod dropping;
 pub mod laws;
 
 pub use arena::Arena;

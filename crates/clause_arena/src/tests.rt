@@ -42,6 +42,22 @@ fn a_lemma_comes_and_goes(rt: HostRuntime) -> Result<(), Fail> {
 }
 
 #[test]
+fn long_lemmas_go_and_short_ones_move_down(rt: HostRuntime) -> Result<(), Fail> {
+    let formula = formula_of(rt.alloc(), &[1, 2, 3], &[4])?;
+    let mut arena = Arena::make(rt.alloc(), &formula)?;
+    arena.add(&[1, 2, 3])?;
+    arena.add(&[3, 4])?;
+    arena.add(&[-1, 2, -3])?;
+    arena.add(&[-2])?;
+    arena.drop_lemmas(2);
+    assert!(rt; arena.len() == 4);
+    assert_eq!(rt; arena.lits(0), [1, 2, 3].as_slice());
+    assert_eq!(rt; arena.lits(2), [3, 4].as_slice());
+    assert_eq!(rt; arena.lits(3), [-2].as_slice());
+    Ok(())
+}
+
+#[test]
 fn a_repeated_literal_is_kept_once(rt: HostRuntime) -> Result<(), Fail> {
     let formula = formula_of(rt.alloc(), &[2, -2, 2], &[])?;
     let arena = Arena::make(rt.alloc(), &formula)?;

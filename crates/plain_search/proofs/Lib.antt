@@ -1,10 +1,3 @@
-pub mod Entries
-pub mod Scans
-pub mod Shrinks
-pub mod Stamps
-pub mod Pictures
-pub mod Passes
-pub mod Work
+pub mod Literals
+pub mod Looks
 pub mod Moves
-pub mod Right
-pub mod SmallSubjects

@@ -1,6 +1,5 @@
-pub mod Entries
-pub mod Pictures
-pub mod Scans
+pub mod Walks
 pub mod Searching
+pub mod Steps
 pub mod SmallSubjects
 pub mod Stamps

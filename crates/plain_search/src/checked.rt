@@ -64,7 +64,8 @@ fn are_variables_of(shown: &[u32], variables: u32) -> bool
 
 /// Whether this is a subject of at most 1,000,000 variables, with few clauses.
 pub(crate) fn is_subject(subject: &Subject) -> bool
-    ensures { result ≡ true → IsSubject subject.now.formula.variables subject.now.formula.clauses subject.now.shown }
+    ensures { result ≡ true → IsSubject subject.now.formula.variables
+        subject.now.formula.clauses subject.now.shown }
 {
     let variables = subject.formula.variables;
     let shown = subject.shown.as_slice();

@@ -1,23 +1,15 @@
 //! Which clauses hold a literal and its negation, so that each assignment meets them.
 ghost use Rattle.std.specs.Prelude.{◌≡◌, ◌+◌, ◌*◌, ◌<◌, ◌≤◌, ◌^◌, length, map, nat_abs, IfOk};
 ghost use Rattle.std.specs.List.{All};
-ghost use Rattle.sat_terms.specs.CubeOrder.{key};
 ghost use Rattle.sat_terms.specs.Subjects.{IsFormula};
-ghost use Rattle.search_region.specs.Moves.{has_pair};
+ghost use Rattle.sat_terms.specs.Cubes.{has_pair};
 ghost use Rattle.plain_search.specs.Stamps.{AreStamped};
 
-use sat_terms::Formula;
+use sat_terms::{Formula, place_of};
 use std::alloc::{AllocError, Global};
 
-/// The place of a literal in a table of all literals: 2v for -v, and 2v + 1 for v.
-fn place_of(lit: i32) -> usize
-    ensures { result ≡ key lit }
-{
-    let double = 2 * lit.unsigned_abs() as usize;
-    if lit < 0 { double } else { double + 1 }
-}
-
-/// Stamps the literals of a clause. No pass has to clear the table, where each clause has a greater stamp.
+/// Stamps the literals of a clause. No pass has to clear the table, where each clause has a greater
+/// stamp.
 fn stamp_literals(stamps: &mut [u32], stamp: u32, clause: &[i32])
     requires older { All (λ s. s < stamp) stamps.old }
     requires places { All (λ l. 2 * nat_abs l + 1 < length stamps.old) clause.now }
@@ -46,8 +38,8 @@ fn has_pair(stamps: &mut [u32], stamp: u32, clause: &[i32]) -> bool
     false
 }
 
-/// For each clause, whether it holds a pair. The time is that of two walks over the formula, with a table of
-/// its literals.
+/// For each clause, whether it holds a pair. The time is that of two walks over the formula, with a
+/// table of its literals.
 pub(crate) fn find_pairs(alloc: Global, formula: &Formula) -> Result<Vec<bool>, AllocError>
     requires { IsFormula formula.now.variables formula.now.clauses }
     ensures { IfOk result (λ pairs. pairs.items ≡ map has_pair formula.now.clauses) }

@@ -1,6 +1,6 @@
 //! For tests: the listings of small formulas under every choice of shown variables, against the
-//! definition. The values of five variables are the bits of a number, that of variable 1 the lowest; so
-//! are choices of variables.
+//! definition. The values of five variables are the bits of a number, that of variable 1 the
+//! lowest; so are choices of variables.
 ghost use Rattle.std.specs.Prelude.{◌<◌, ◌≤◌};
 
 use crate::tests::{clause, listed};

@@ -1,124 +1,147 @@
-//! Shrinking a model: the least level whose shown literals, with all hidden ones, meet each clause, and the
-//! cube of these literals.
-ghost use Rattle.std.specs.Prelude.{◌≡◌, ℕ, ◌<◌, ◌||◌, true, nat_le, map, IfOk};
-ghost use Rattle.std.specs.List.{All, list_all, list_any};
+//! Shrinking a model: the least level whose shown literals, with all hidden ones, meet each clause,
+//! and the cube of these literals.
+ghost use Rattle.std.specs.Prelude.{◌≡◌, ℕ, ◌≤◌, ◌||◌, nat_le, nat_abs, IfOk};
+ghost use Rattle.std.specs.List.{All};
+ghost use Rattle.std.specs.List.Sorted.{IsStrictlyIncreasing};
+ghost use Rattle.sat_terms.specs.Literals.{IsLiteralOf};
 ghost use Rattle.sat_terms.specs.Cubes.{is_among};
-ghost use Rattle.sat_terms.specs.Subjects.{IsVariableList};
-ghost use Rattle.search_region.specs.Moves.{has_pair};
-ghost use Rattle.plain_search.specs.Scans.{HasPlace, is_true, is_within, flips_within, holds_upto, meets_upto, is_enough, cube_upto};
+ghost use Rattle.plain_search.specs.Searching.{IsSearching};
+ghost use Rattle.plain_search.specs.Steps.{IsModel, IsLeastLevel, Shrinks, level_within};
+ghost use Rattle.plain_search.specs.Steps.{is_shown_flip, flips_within, needs_within};
+ghost use Rattle.plain_search.specs.Steps.{counts_within, counts_any, cube_within};
 
-use crate::trail::Trail;
-use sat_terms::{Clause, Cube};
+use crate::search::Search;
+use chrono_trail::{Item, Kind};
+use sat_terms::{Cube, Subject};
 use std::alloc::{AllocError, Global};
+
+impl Search {
+    /// Takes a model: its cube up to the least level is found. The answer is that level.
+    pub(crate) fn shrink(&mut self, alloc: Global, subject: &Subject) -> Result<u32, AllocError>
+        requires searching { IsSearching subject.now self.old }
+        requires model { IsModel subject.now self.old }
+        ensures { IfOk result (Shrinks subject.now self.old self.new) }
+    {
+        let level = self.least_level(subject);
+        let cube = self.cube_up_to(alloc, subject, level)?;
+        self.found.push(cube)?;
+        Ok(level)
+    }
+
+    /// The least level of a model: no shown flipped literal is above it, and each clause has a true
+    /// literal among the hidden ones and the shown ones up to it, or holds a pair.
+    fn least_level(&self, subject: &Subject) -> u32
+        requires searching { IsSearching subject.now self.now }
+        requires model { IsModel subject.now self.now }
+        ensures { IsLeastLevel subject.now self.now result }
+    {
+        let mut level = self.flips_level(subject);
+        for (place, clause) in subject.formula.clauses.as_slice().iter().enumerate() {
+            if !self.pairs[place] {
+                level = level.max(self.clause_level(subject, clause.lits()).unwrap());
+            }
+        }
+        level
+    }
+
+    /// The greatest level of a shown literal that was flipped; 0 where there is none. A cube has to
+    /// hold these, or it would overlap one that was found on the other side.
+    fn flips_level(&self, subject: &Subject) -> u32
+        requires { IsSearching subject.now self.now }
+        ensures { (b : ℕ) → flips_within subject.now self.now b ≡ nat_le result b }
+    {
+        let mut level = 0;
+        for item in self.trail.items() {
+            if is_shown_flip(subject, item) {
+                level = level.max(item.level);
+            }
+        }
+        level
+    }
+
+    /// The least level at which a literal of the clause counts; None where none does.
+    fn clause_level(&self, subject: &Subject, clause: &[i32]) -> Option<u32>
+        requires searching { IsSearching subject.now self.now }
+        requires named { All (IsLiteralOf subject.now.formula.variables) clause.now }
+        ensures { (b : ℕ) → counts_any subject.now self.now b clause.now ≡ level_within b result }
+    {
+        let mut least = None;
+        for lit in clause {
+            least = lower(least, self.literal_level(subject, *lit));
+        }
+        least
+    }
+
+    /// The level from which on a literal counts: its own for a true shown one, and 0 for a true
+    /// hidden one. None where it is not true.
+    fn literal_level(&self, subject: &Subject, lit: i32) -> Option<u32>
+        requires searching { IsSearching subject.now self.now }
+        requires named { nat_abs lit ≤ subject.now.formula.variables }
+        ensures { (b : ℕ) → counts_within subject.now self.now b lit ≡ level_within b result }
+    {
+        let item = self.trail.item(lit.unsigned_abs())?;
+        if item.lit == lit {
+            Some(needed_level(subject, &item))
+        } else {
+            None
+        }
+    }
+
+    /// The cube of the shown literals up to this level.
+    fn cube_up_to(&self, alloc: Global, subject: &Subject, level: u32) -> Result<Cube, AllocError>
+        requires { IsSearching subject.now self.now }
+        ensures { IfOk result (λ cube. cube ≡ cube_within subject.now self.now level) }
+    {
+        let mut lits = Vec::new(alloc);
+        for variable in subject.shown.as_slice() {
+            if let Some(item) = self.trail.item(*variable) {
+                if item.level <= level {
+                    lits.push(item.lit)?;
+                }
+            }
+        }
+        Ok(Cube::from_vec(lits))
+    }
+}
+
+/// The level of a shown item, and 0 of a hidden one.
+fn needed_level(subject: &Subject, item: &Item) -> u32
+    requires { IsStrictlyIncreasing subject.now.shown }
+    ensures { (b : ℕ) → needs_within subject.now b item.now ≡ nat_le result b }
+{
+    if is_shown(subject.shown.as_slice(), item.lit.unsigned_abs()) {
+        item.level
+    } else {
+        0
+    }
+}
+
+/// The lower of two levels, where there are some.
+fn lower(first: Option<u32>, second: Option<u32>) -> Option<u32>
+    ensures { (b : ℕ) → (level_within b first || level_within b second) ≡ level_within b result }
+{
+    match (first, second) {
+        (Some(level), Some(other)) => Some(level.min(other)),
+        (None, other) => other,
+        (level, None) => level,
+    }
+}
+
+/// Whether this is a shown literal that was flipped.
+fn is_shown_flip(subject: &Subject, item: &Item) -> bool
+    requires { IsStrictlyIncreasing subject.now.shown }
+    ensures { result ≡ is_shown_flip subject.now item.now }
+{
+    match item.kind {
+        Kind::Flipped => is_shown(subject.shown.as_slice(), item.lit.unsigned_abs()),
+        Kind::Assumed | Kind::Decided | Kind::Turned(_) | Kind::Implied(_) => false,
+    }
+}
 
 /// Whether a variable is one of the shown ones, by halves.
 fn is_shown(shown: &[u32], variable: u32) -> bool
-    requires { IsVariableList shown.now }
+    requires { IsStrictlyIncreasing shown.now }
     ensures { result ≡ is_among shown.now variable }
 {
     shown.binary_search(&variable).is_ok()
-}
-
-/// The greatest level of a shown literal that was flipped; 0 where there is none. A cube has to hold these,
-/// or it would overlap one that was found on the other side.
-fn flips_level(trail: &Trail, shown: &[u32]) -> u32
-    requires { All (λ v. v < trail.now.places) shown.now }
-    ensures { (b : ℕ) → flips_within b trail.now.entries shown.now ≡ nat_le result b }
-{
-    let mut level = 0;
-    for variable in shown {
-        if let Some(entry) = trail.get(*variable) {
-            if entry.cause.is_flip() {
-                level = level.max(entry.level);
-            }
-        }
-    }
-    level
-}
-
-/// The least level of a true literal of the clause, where a hidden one counts as 0; None where none is true.
-fn literals_level(trail: &Trail, shown: &[u32], clause: &[i32]) -> Option<u32>
-    requires variables { IsVariableList shown.now }
-    requires places { All (HasPlace trail.now.places) clause.now }
-    ensures { (b : ℕ) → list_any (holds_upto b trail.now.entries shown.now) clause.now ≡ is_within b result }
-{
-    let mut least: Option<u32> = None;
-    for lit in clause {
-        let variable = lit.unsigned_abs();
-        if let Some(entry) = trail.get(variable) {
-            if entry.lit == *lit {
-                let level = if is_shown(shown, variable) {
-                    entry.level
-                } else {
-                    0
-                };
-                least = lower(least, level);
-            }
-        }
-    }
-    least
-}
-
-/// The lower of two levels, where the first may be missing.
-fn lower(least: Option<u32>, level: u32) -> Option<u32>
-    ensures { (b : ℕ) → (is_within b least || nat_le level b) ≡ is_within b result }
-{
-    match least {
-        Some(other) => Some(level.min(other)),
-        None => Some(level),
-    }
-}
-
-/// The least level that the clause needs: at it, a literal of it is true, where the hidden ones count
-/// always, or it holds a pair.
-fn clause_level(trail: &Trail, shown: &[u32], clause: &[i32], holds_pair: bool) -> u32
-    requires variables { IsVariableList shown.now }
-    requires places { All (HasPlace trail.now.places) clause.now }
-    requires holds { list_any (is_true trail.now.entries) clause.now ≡ true }
-    requires pair { holds_pair ≡ has_pair clause.now }
-    ensures { (b : ℕ) → meets_upto b trail.now.entries shown.now clause.now ≡ nat_le result b }
-{
-    if holds_pair {
-        return 0;
-    }
-    literals_level(trail, shown, clause).unwrap()
-}
-
-/// The least level of a model: no shown flipped literal is above it, and each clause has a true literal
-/// among the hidden ones and the shown ones up to it, or holds a pair, as `pairs` tells of each clause.
-pub(crate) fn least_level(trail: &Trail, shown: &[u32], clauses: &[Clause], pairs: &[bool]) -> u32
-    requires variables { IsVariableList shown.now }
-    requires shown_places { All (λ v. v < trail.now.places) shown.now }
-    requires clause_places { All (All (HasPlace trail.now.places)) clauses.now }
-    requires holds { list_all (list_any (is_true trail.now.entries)) clauses.now ≡ true }
-    requires pairs { pairs.now ≡ map has_pair clauses.now }
-    ensures { (b : ℕ) → is_enough b trail.now.entries shown.now clauses.now ≡ nat_le result b }
-{
-    let mut level = flips_level(trail, shown);
-    for (place, clause) in clauses.iter().enumerate() {
-        level = level.max(clause_level(trail, shown, clause.lits(), pairs[place]));
-    }
-    level
-}
-
-/// The cube of the shown literals up to this level.
-pub(crate) fn cube_up_to(
-    alloc: Global,
-    trail: &Trail,
-    shown: &[u32],
-    level: u32,
-) -> Result<Cube, AllocError>
-    requires variables { IsVariableList shown.now }
-    requires places { All (λ v. v < trail.now.places) shown.now }
-    ensures { IfOk result (λ cube. cube ≡ cube_upto level trail.now.entries shown.now) }
-{
-    let mut lits = Vec::new(alloc);
-    for variable in shown {
-        if let Some(entry) = trail.get(*variable) {
-            if entry.level <= level {
-                lits.push(entry.lit)?;
-            }
-        }
-    }
-    Ok(Cube::from_vec(lits))
 }

@@ -194,8 +194,8 @@ fn holders(cubes: &[Cube], values: [bool; 3]) -> usize {
     count
 }
 
-/// Compares the listing of two clauses over three variables with the definition, with 1 to 3 shown and then
-/// with 2 hidden.
+/// Compares the listing of two clauses over three variables with the definition, with 1 to 3 shown
+/// and then with 2 hidden.
 fn compare_with_definition(
     rt: &impl Abort,
     alloc: Global,

@@ -1,4 +1,4 @@
-pub mod Scans
 pub mod Steps
-pub mod Pairs
 pub mod Reasons
+pub mod Settled
+pub mod Derived

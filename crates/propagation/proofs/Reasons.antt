@@ -1,66 +1,15 @@
 -- The clause of an implied item is its reason.
-use Rattle.std.proofs.Common.{◌≡◌, ℕ, ◌≤◌, true, false, cond, ◌&&◌, ◌||◌, nat_eq, nat_le, ℤ, neg_ℤ, nat_abs, List, [], ◌∷◌, get_or, None, is_none, refl, sym, ap, subst, ◌∙◌, inl, inr, arith}
-use Rattle.std.specs.List.{list_all}
-use Rattle.std.specs.Ordering.{int_eq}
-use Rattle.std.proofs.lemmas.Bool.{and_parts, and_from, or_left, or_right, both_ways, cases_Bool, eq-eqb, eqb-true, le-leb}
-use Rattle.sat_terms.proofs.CubeLemmas.{nat_abs-neg, int_eq-true}
+use Rattle.std.proofs.Common.{◌≡◌, ℕ, true, false, nat_eq, ℤ, nat_abs, List, [], ◌∷◌, ◌++◌, get_or, Some, is_none, refl, sym, ap, subst, ◌∙◌, inl, inr, arith, append_assoc}
+use Rattle.std.proofs.lemmas.Bool.{and_parts, and_from, cases_Bool}
 use Rattle.chrono_trail.specs.declared.item.Kind.TheVariants.{Implied}
 use Rattle.chrono_trail.specs.declared.item.Item.{Item}
-use Rattle.chrono_trail.specs.Items.{item_of, are_distinct}
-use Rattle.chrono_trail.specs.Clauses.{is_false, is_or_false, false_by, level_or_zero, rest_level}
-use Rattle.chrono_trail.proofs.Items.{none_is}
-use Rattle.propagation.specs.Steps.{IsImplied}
-use Rattle.propagation.specs.Laws.{IsReason}
-use Rattle.chrono_trail.specs.Pictures.{pictured, picture_of}
-use Rattle.chrono_trail.proofs.Pictures.{false_by-picture}
-use Rattle.search_region.specs.Trail as picture
-use Rattle.search_region.proofs.Literals.{all_weaker}
-use Rattle.propagation.proofs.Scans.{free_not_false}
-
--- a false literal is so by the item of its variable
-false_low : (items : List Item) (m : ℤ) (k : ℕ) → are_distinct items ≡ true → is_false items m ≡ true →
-    level_or_zero (item_of items (nat_abs m)) ≤ k → false_by k items m ≡ true
-false_low [] m k d wrong low = absurd (both_ways false refl wrong)
-false_low (i ∷ later) m k d wrong low =
-    let (alone, apart) = and_parts (is_none (item_of later (nat_abs i.lit))) (are_distinct later) d in
-    elim (cases_Bool (int_eq m (neg_ℤ i.lit))) [
-      | inl negated ↦
-          let variable : nat_abs m ≡ nat_abs i.lit = ap nat_abs (int_eq-true m (neg_ℤ i.lit) negated) ∙ nat_abs-neg i.lit in
-          let level : i.level ≤ k = rw (eq-eqb (nat_abs m) (nat_abs i.lit) variable) at low in
-          or_left (int_eq m (neg_ℤ i.lit) && nat_le i.level k) (false_by k later m)
-          (and_from (int_eq m (neg_ℤ i.lit)) (nat_le i.level k) negated (le-leb i.level k level))
-      | inr other ↦
-          let rest : is_false later m ≡ true = rw other at wrong in
-          or_right (int_eq m (neg_ℤ i.lit) && nat_le i.level k) (false_by k later m)
-          (elim (cases_Bool (nat_eq (nat_abs m) (nat_abs i.lit))) [
-            | inl same ↦
-                let none : item_of later (nat_abs m) ≡ None =
-                ap (item_of later) (eqb-true (nat_abs m) (nat_abs i.lit) same) ∙ none_is (item_of later (nat_abs i.lit)) alone in
-                absurd (both_ways (is_false later m) (free_not_false later m none) rest)
-            | inr away ↦
-                let below : level_or_zero (item_of later (nat_abs m)) ≤ k = rw away at low in
-                false_low later m k apart rest below
-          ])
-    ]
-
--- each literal of the clause but l is false by an item of at most the level of the rest
-rest_low : (items : List Item) (l : ℤ) (k : ℕ) (c : List ℤ) → are_distinct items ≡ true →
-    list_all (is_or_false items l) c ≡ true → rest_level items l c ≤ k →
-    list_all (λ m. int_eq m l || false_by k items m) c ≡ true
-rest_low items l k [] d all low = refl
-rest_low items l k (m ∷ c) d all low =
-    let (now, rest) = and_parts (is_or_false items l m) (list_all (is_or_false items l) c) all in
-    let later = rest_low items l k c d rest (omega arith) in
-    and_from (int_eq m l || false_by k items m) (list_all (λ x. int_eq x l || false_by k items x) c)
-    (elim (cases_Bool (int_eq m l)) [
-      | inl same ↦ or_left (int_eq m l) (false_by k items m) same
-      | inr other ↦
-          let wrong : is_false items m ≡ true = rw other at now in
-          let first : cond (int_eq m l) 0 (level_or_zero (item_of items (nat_abs m))) ≤ k = omega arith in
-          let level : level_or_zero (item_of items (nat_abs m)) ≤ k = rw other at first in
-          or_right (int_eq m l) (false_by k items m) (false_low items m k d wrong level)
-    ])
-    later
+use Rattle.chrono_trail.specs.Items.{item_of, reason_id, are_distinct}
+use Rattle.chrono_trail.specs.Clauses.{IsReason}
+use Rattle.chrono_trail.proofs.Reasons.{rest_low}
+use Rattle.chrono_trail.specs.Reasons.{HaveReasons, AreReasoned}
+use Rattle.chrono_trail.proofs.Reasoned.{have_more}
+use Rattle.propagation.specs.Laws.{PropagationKeepsReasons}
+use Rattle.propagation.specs.Steps.{IsImplied, AreImplied}
 
 pub implied_reason : (clauses : List (List ℤ)) (older : List Item) (i : Item) (id : ℕ) →
     are_distinct older ≡ true → IsImplied clauses older i → i.kind ≡ Implied id →
@@ -73,10 +22,38 @@ implied_reason clauses older i id d h kind =
       rest = rest_low older i.lit i.level (get_or clauses h.id []) d h.unit.rest (omega arith);
     })
 
-pub pictured_reason : (clauses : List (List ℤ)) (older : List Item) (i : Item) (c : List ℤ) →
-    IsReason older i c →
-    picture.is_reason c (pictured clauses i) (picture_of clauses older) ≡ true
-pictured_reason clauses older i c h =
-    all_weaker (λ m. int_eq m i.lit || false_by i.level older m)
-    (λ m. int_eq m i.lit || picture.false_by i.level (picture_of clauses older) m)
-    (λ m e. ap (λ b. int_eq m i.lit || b) (false_by-picture clauses i.level older m) ∙ e) c h.rest
+-- what goes before has distinct variables where all has
+pub distinct_front : (xs ys : List Item) → are_distinct (xs ++ ys) ≡ true → are_distinct xs ≡ true
+distinct_front [] ys h = refl
+distinct_front (x ∷ xs) ys h =
+    let (alone, rest) = and_parts (is_none (item_of (xs ++ ys) (nat_abs x.lit))) (are_distinct (xs ++ ys)) h in
+    and_from (is_none (item_of xs (nat_abs x.lit))) (are_distinct xs) (none_front xs ys (nat_abs x.lit) alone) (distinct_front xs ys rest)
+  where
+    none_front : (xs ys : List Item) (v : ℕ) → is_none (item_of (xs ++ ys) v) ≡ true → is_none (item_of xs v) ≡ true
+    none_front [] ys v h = refl
+    none_front (x ∷ xs) ys v h =
+        elim (cases_Bool (nat_eq v (nat_abs x.lit))) [
+          | inl same ↦ let clash : false ≡ true = rw same at h in cc
+          | inr other ↦ let rest : is_none (item_of (xs ++ ys) v) ≡ true = rw other at h in rw other (none_front xs ys v rest)
+        ]
+
+added_reasons : (clauses : List (List ℤ)) (old added : List Item) → are_distinct (old ++ added) ≡ true → AreImplied clauses old added → HaveReasons clauses old added
+added_reasons clauses old [] apart h = tt
+added_reasons clauses old (i ∷ added) apart h = (
+  (λ id some. record {
+    inside = let same = id_is id some in let inside = h.0.inside in omega arith;
+    reason = implied_reason clauses old i id (distinct_front old (i ∷ added) apart) h.0 (kind_is id some);
+  }),
+  added_reasons clauses (old ++ i ∷ []) added (subst (λ xs. are_distinct xs ≡ true) (sym (append_assoc old (i ∷ []) added)) apart) h.1,
+)
+  where
+    id_is : (id : ℕ) → reason_id i.kind ≡ Some id → h.0.id ≡ id
+    id_is id some = let told : Some h.0.id ≡ Some id = sym (ap reason_id h.0.kind) ∙ some in cc
+
+    kind_is : (id : ℕ) → reason_id i.kind ≡ Some id → i.kind ≡ Implied id
+    kind_is id some = h.0.kind ∙ ap Implied (id_is id some)
+
+pub propagation_keeps_reasons : PropagationKeepsReasons
+propagation_keeps_reasons clauses old new apart steps h =
+    subst (AreReasoned clauses) (sym steps.grows)
+    (have_more clauses [] old steps.added h (added_reasons clauses old steps.added (subst (λ xs. are_distinct xs ≡ true) steps.grows apart) steps.implied))

@@ -8,9 +8,9 @@ use Rattle.chrono_trail.specs.Clauses.{IsUnit, rest_level}
 use Rattle.chrono_trail.proofs.Tables.{trail_push}
 use Rattle.chrono_trail.proofs.Back.{all_low}
 use Rattle.sat_terms.specs.Literals.{IsLiteralOf}
-use Rattle.propagation.specs.Scans.{IsAtRest}
+use Rattle.chrono_trail.specs.Clauses.{IsAtRest}
 use Rattle.propagation.specs.Steps.{AreImplied, Propagates}
-use Rattle.propagation.proofs.Scans.{low_rest}
+use Rattle.chrono_trail.proofs.Clauses.{low_rest}
 
 implied_append : (clauses : List (List ℤ)) (old xs ys : List Item) → AreImplied clauses old xs → AreImplied clauses (old ++ xs) ys → AreImplied clauses old (xs ++ ys)
 implied_append clauses old [] ys h g = subst (λ o. AreImplied clauses o ys) (append-nil old) g

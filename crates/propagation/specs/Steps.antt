@@ -1,11 +1,12 @@
 -- The steps of propagation, and what it comes to.
-use Rattle.std.specs.Prelude.{◌≡◌, ℕ, ◌<◌, true, List, [], ◌∷◌, ◌++◌, length, slice_index_or, ℤ}
+use Rattle.std.specs.Prelude.{◌≡◌, ℕ, ◌<◌, true, false, List, [], ◌∷◌, ◌++◌, length, slice_index_or, ℤ}
 use Rattle.chrono_trail.specs.declared.item.Kind.TheVariants.{Implied}
 use Rattle.chrono_trail.specs.declared.item.Item.{Item}
+use Rattle.chrono_trail.specs.Trails.{TrailView}
 use Rattle.chrono_trail.specs.Clauses.{is_false_clause, IsUnit, rest_level}
 use Rattle.propagation.specs.declared.propagator.Propagated.{Propagated}
 use Rattle.propagation.specs.declared.propagator.Propagated.TheVariants.{Quiet, Conflict}
-use Rattle.propagation.specs.Scans.{IsAtRest}
+use Rattle.chrono_trail.specs.Clauses.{IsAtRest}
 
 -- The item is implied by a clause that is unit under the older items, on the greatest level of its
 -- other literals.
@@ -42,7 +43,14 @@ AreAtRest clauses items = (id : ℕ) → id < length clauses →
 abbrev pub IsAtRestIf : List (List ℤ) → List Item → List Item → Type 0
 IsAtRestIf clauses old new = new ≡ old → AreAtRest clauses new
 
+-- No clause is false, and none is unit where the current level is 0. Above it a clause may be unit:
+-- one that became so where levels were taken back.
+pub record IsQuiet (clauses : List (List ℤ)) (trail : TrailView) : Type 0 where
+  pub none_false : (id : ℕ) → id < length clauses →
+      is_false_clause trail.items (slice_index_or clauses id []) ≡ false
+  pub lowest : trail.level ≡ 0 → AreAtRest clauses trail.items
+
 -- What propagation came to.
-abbrev pub CameTo : List (List ℤ) → List Item → Propagated → Type 0
-CameTo clauses items Quiet = AreAtRest clauses items
-CameTo clauses items (Conflict id) = IsFalseOf clauses items id
+abbrev pub CameTo : List (List ℤ) → TrailView → Propagated → Type 0
+CameTo clauses trail Quiet = IsQuiet clauses trail
+CameTo clauses trail (Conflict id) = IsFalseOf clauses trail.items id

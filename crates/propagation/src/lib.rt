@@ -10,7 +10,6 @@
 
 pub mod laws;
 mod propagator;
-mod scan;
 
 pub use propagator::{Propagated, Propagator};
 

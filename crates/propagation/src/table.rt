@@ -3,7 +3,7 @@
 ghost use Rattle.std.specs.Prelude.{◌<◌, ◌≤◌, nat_abs};
 ghost use Rattle.sat_terms.specs.Literals.{IsLiteralOf};
 
-use crate::tests::{arena_of, formula_of};
+use crate::tests::{arena_of, formula_of, run};
 use crate::{Propagated, Propagator};
 use chrono_trail::Trail;
 use std::alloc::{AllocError, Global};
@@ -91,7 +91,7 @@ fn agrees(alloc: Global, first: Pair, second: Pair, start: i32) -> Result<bool, 
     let mut trail = Trail::make(alloc, 3)?;
     let mut propagator = Propagator::make(alloc, &arena, 3)?;
     trail.decide(start);
-    let quiet = propagator.propagate(&arena, &mut trail) == Propagated::Quiet;
+    let quiet = run(&mut propagator, &arena, &mut trail) == Propagated::Quiet;
     let set = closure(first, second, start);
     if is_negated(&set, first) || is_negated(&set, second) {
         return Ok(!quiet);

@@ -3,6 +3,7 @@ ghost use Rattle.std.specs.Prelude.{◌≡◌, ◌≤◌, length, IfOk};
 ghost use Rattle.std.specs.List.{All};
 ghost use Rattle.sat_terms.specs.Literals.{IsLiteralOf};
 ghost use Rattle.sat_terms.specs.Subjects.{IsFormula};
+ghost use Rattle.propagation.specs.Settled.{Watches, IsSettled};
 
 use crate::{Propagated, Propagator};
 use chrono_trail::{Item, Kind, Trail};
@@ -43,6 +44,21 @@ pub(crate) fn arena_of(alloc: Global, formula: &Formula) -> Result<Arena, AllocE
     Arena::make(alloc, formula)
 }
 
+/// Propagates over clauses that the propagator watches, under a trail of which no item is marked.
+pub(crate) fn run(propagator: &mut Propagator, arena: &Arena, trail: &mut Trail) -> Propagated
+    requires variables { trail.old.variables ≡ propagator.old.variables }
+    requires clauses { All (All (IsLiteralOf propagator.old.variables)) arena.now.clauses }
+    requires watches { Watches arena.now.clauses propagator.old }
+    requires unseen { trail.old.seen ≡ 0 }
+    ensures settled { IsSettled arena.now.clauses propagator.new trail.new }
+    ensures known { propagator.new.known ≡ propagator.old.known }
+    ensures own_variables { propagator.new.variables ≡ propagator.old.variables }
+    ensures variables { trail.new.variables ≡ trail.old.variables }
+    ensures level { trail.new.level ≡ trail.old.level }
+{
+    propagator.propagate(arena, trail)
+}
+
 #[test]
 fn one_literal_implies_the_next(rt: HostRuntime) -> Result<(), Fail> {
     let formula = formula_of(rt.alloc(), 3, &[1, 2], &[-2, 3])?;
@@ -50,7 +66,7 @@ fn one_literal_implies_the_next(rt: HostRuntime) -> Result<(), Fail> {
     let mut trail = Trail::make(rt.alloc(), 3)?;
     let mut propagator = Propagator::make(rt.alloc(), &arena, 3)?;
     trail.decide(-1);
-    assert!(rt; propagator.propagate(&arena, &mut trail) == Propagated::Quiet);
+    assert!(rt; run(&mut propagator, &arena, &mut trail) == Propagated::Quiet);
     let decided = Item {
         lit: -1,
         level: 1,
@@ -79,7 +95,7 @@ fn what_needs_no_decision_stands_on_level_zero(rt: HostRuntime) -> Result<(), Fa
     let mut trail = Trail::make(rt.alloc(), 4)?;
     let mut propagator = Propagator::make(rt.alloc(), &arena, 4)?;
     trail.decide(-1);
-    assert!(rt; propagator.propagate(&arena, &mut trail) == Propagated::Quiet);
+    assert!(rt; run(&mut propagator, &arena, &mut trail) == Propagated::Quiet);
     trail.backtrack(0);
     let first = Item {
         lit: 3,
@@ -106,7 +122,7 @@ fn two_clauses_cannot_both_hold(rt: HostRuntime) -> Result<(), Fail> {
     trail.decide(-2);
     assert!(rt;
         matches!(
-            propagator.propagate(&arena, &mut trail),
+            run(&mut propagator, &arena, &mut trail),
             Propagated::Conflict(0 | 1)
         )
     );
@@ -115,6 +131,7 @@ fn two_clauses_cannot_both_hold(rt: HostRuntime) -> Result<(), Fail> {
     assert_eq!(rt; id, 2);
     propagator.learn(&arena, &mut trail, id)?;
     assert_eq!(rt; trail.items().len(), 3);
+    propagator.rebuild(&arena);
     Ok(())
 }
 
@@ -125,7 +142,7 @@ fn a_clause_with_a_pair_implies_nothing(rt: HostRuntime) -> Result<(), Fail> {
     let mut trail = Trail::make(rt.alloc(), 4)?;
     let mut propagator = Propagator::make(rt.alloc(), &arena, 4)?;
     trail.decide(-2);
-    assert!(rt; propagator.propagate(&arena, &mut trail) == Propagated::Quiet);
+    assert!(rt; run(&mut propagator, &arena, &mut trail) == Propagated::Quiet);
     assert_eq!(rt; trail.items().len(), 1);
     Ok(())
 }

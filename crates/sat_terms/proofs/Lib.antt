@@ -1,5 +1,6 @@
 pub mod CubeLemmas
 pub mod Disjoint
+pub mod Inside
 pub mod Keys
 pub mod Machine
 pub mod Once

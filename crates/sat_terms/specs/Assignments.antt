@@ -13,7 +13,8 @@ assignment_of (q ∷ p) (b ∷ a) v = cond (nat_eq v q) b (assignment_of p a v)
 abbrev pub lies_in : List ℕ → List Bool → List ℤ → Bool
 lies_in p a c = holds (assignment_of p a) c
 
--- A projected assignment is good where some model of the formula has these values at the shown variables.
+-- A projected assignment is good where some model of the formula has these values at the shown
+-- variables.
 pub record IsGood (f : List (List ℤ)) (p : List ℕ) (a : List Bool) : Type 0 where
   pub model : ℕ → Bool
   pub meets : sat f model ≡ true

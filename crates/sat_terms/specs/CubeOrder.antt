@@ -9,6 +9,7 @@ abbrev pub key : ℤ → ℕ
 key (pos n) = 2 * n + 1
 key (negsuc n) = 2 * suc n
 
--- Cubes are compared by the keys of their literals at the first difference; a proper prefix stands before the longer list.
+-- Cubes are compared by the keys of their literals at the first difference; a proper prefix stands
+-- before the longer list.
 abbrev pub cube_order : List ℤ → List ℤ → Ordering
 cube_order c d = slice_cmp nat_cmp (map key c) (map key d)

@@ -21,6 +21,10 @@ pub record IsCube (p : List ℕ) (c : List ℤ) : Type 0 where
 abbrev pub has_literal : List ℤ → ℤ → Bool
 has_literal c l = list_any (int_eq l) c
 
+-- The clause holds a literal and its negation, so that each assignment meets it.
+abbrev pub has_pair : List ℤ → Bool
+has_pair c = list_any (λ l. has_literal c (neg_ℤ l)) c
+
 -- Two cubes are apart where some literal of the first is negated in the second.
 abbrev pub apart : List ℤ → List ℤ → Bool
 apart c d = list_any (λ l. has_literal d (neg_ℤ l)) c
@@ -40,7 +44,8 @@ pub record IsNotShownAt (p : List ℕ) (c : List ℤ) (k : ℕ) : Type 0 where
   pub before : IsCube p (take k c)
   pub hidden : is_among p (nat_abs (slice_index_or c k (pos 0))) ≡ false
 
--- The first k literals make a cube, and the variable of the next one is shown, and isn't above that of the one before.
+-- The first k literals make a cube, and the variable of the next one is shown, and isn't above that
+-- of the one before.
 pub record IsNotRisingAt (p : List ℕ) (c : List ℤ) (k : ℕ) : Type 0 where
   pub inside : k < length c
   pub before : IsCube p (take k c)

@@ -1,17 +1,24 @@
 -- The laws of cubes and of right lists.
-use Rattle.std.specs.Prelude.{◌≡◌, ◌↔◌, ℕ, ◌<◌, Bool, true, List, [], length, slice_index_or, ℤ}
-use Rattle.std.specs.List.{list_any}
+use Rattle.std.specs.Prelude.{◌≡◌, ◌↔◌, ℕ, ◌<◌, Bool, true, List, [], length, slice_index_or, ℤ, nat_abs, nat_lt}
+use Rattle.std.specs.List.{list_any, list_all}
 use Rattle.std.specs.Cmp.{IsTotalOrder}
 use Rattle.std.specs.declared.cmp.Ordering.TheVariants.{Equal}
 use Rattle.sat_terms.specs.Assignments.{IsGood, lies_in}
-use Rattle.sat_terms.specs.Cubes.{IsCube, apart}
+use Rattle.sat_terms.specs.Truth.{holds}
+use Rattle.sat_terms.specs.Cubes.{IsCube, apart, within}
 use Rattle.sat_terms.specs.CubeOrder.{cube_order}
 use Rattle.sat_terms.specs.RightList.{IsRightList}
 
 -- Two cubes are apart exactly if no projected assignment lies in both.
 abbrev pub ApartIsDisjoint : List ℕ → List ℤ → List ℤ → Type 0
 ApartIsDisjoint p c d = IsCube p c → IsCube p d →
-    (apart c d ≡ true) ↔ ((a : List Bool) → length a ≡ length p → lies_in p a c ≡ true → lies_in p a d ≡ true → ⊥)
+    (apart c d ≡ true) ↔ ((a : List Bool) → length a ≡ length p →
+    lies_in p a c ≡ true → lies_in p a d ≡ true → ⊥)
+
+-- A cube is within a list of literals exactly if each assignment in the cube is in the list.
+abbrev pub WithinIsInside : List ℕ → List ℤ → List ℤ → Type 0
+WithinIsInside p c q = IsCube p c → list_all (λ l. nat_lt 0 (nat_abs l)) q ≡ true →
+    (within c q ≡ true) ↔ ((t : ℕ → Bool) → holds t c ≡ true → holds t q ≡ true)
 
 -- The order of cubes is a total order, and lists of literals that it calls equal are the same list.
 pub record OrdersCubes : Type 0 where
@@ -26,9 +33,11 @@ pub record LiesOnlyAt (p : List ℕ) (a : List Bool) (cubes : List (List ℤ)) (
 
 -- A right list holds each good assignment in exactly one cube.
 abbrev pub HoldsEachOnce : List (List ℤ) → List ℕ → List (List ℤ) → Type 0
-HoldsEachOnce f p cubes = IsRightList f p cubes → (a : List Bool) → length a ≡ length p → IsGood f p a → (k : ℕ) × LiesOnlyAt p a cubes k
+HoldsEachOnce f p cubes = IsRightList f p cubes → (a : List Bool) → length a ≡ length p →
+    IsGood f p a → (k : ℕ) × LiesOnlyAt p a cubes k
 
 -- Right lists of one formula hold the same assignments.
 abbrev pub HoldOneSet : List (List ℤ) → List ℕ → List (List ℤ) → List (List ℤ) → Type 0
-HoldOneSet f p cubes others = IsRightList f p cubes → IsRightList f p others → (a : List Bool) → length a ≡ length p →
+HoldOneSet f p cubes others = IsRightList f p cubes → IsRightList f p others →
+    (a : List Bool) → length a ≡ length p →
     list_any (lies_in p a) cubes ≡ list_any (lies_in p a) others

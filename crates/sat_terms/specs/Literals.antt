@@ -9,7 +9,8 @@ IsLiteral l = (0 < nat_abs l) × (nat_abs l < 2 ^ 31)
 abbrev pub IsLiteralOf : ℕ → ℤ → Type 0
 IsLiteralOf n l = (0 < nat_abs l) × (nat_abs l ≤ n)
 
--- A total assignment t gives each variable a truth value. The literal v is true in it where v is, the literal -v where v is not.
+-- A total assignment t gives each variable a truth value. The literal v is true in it where v is,
+-- the literal -v where v is not.
 abbrev pub lit_true : (ℕ → Bool) → ℤ → Bool
 lit_true t (pos n) = t n
 lit_true t (negsuc n) = not (t (suc n))

@@ -11,6 +11,7 @@ sat_clause t c = list_any (lit_true t) c
 abbrev pub sat : List (List ℤ) → (ℕ → Bool) → Bool
 sat f t = list_all (sat_clause t) f
 
--- A total assignment lies in a cube where each literal of the cube is true in it; all lie in the empty cube.
+-- A total assignment lies in a cube where each literal of the cube is true in it; all lie in the
+-- empty cube.
 abbrev pub holds : (ℕ → Bool) → List ℤ → Bool
 holds t c = list_all (lit_true t) c

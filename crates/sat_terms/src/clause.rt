@@ -6,8 +6,8 @@ ghost use Rattle.sat_terms.specs.Literals.{IsLiteral};
 use std::alloc::{AllocError, Global};
 use std::marker::Model;
 
-/// A list of literals, of which one has to be true. Repeated literals and pairs `l`, `-l` are kept as
-/// written; the clause without literals is false everywhere.
+/// A list of literals, of which one has to be true. Repeated literals and pairs `l`, `-l` are kept
+/// as written; the clause without literals is false everywhere.
 #[derive(Debug, Drop)]
 pub struct Clause(Vec<i32>);
 

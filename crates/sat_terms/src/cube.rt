@@ -1,5 +1,5 @@
 //! A cube: literals of shown variables, whose variables rise.
-ghost use Rattle.std.specs.Prelude.{◌≡◌, true};
+ghost use Rattle.std.specs.Prelude.{◌≡◌, true, IfOk};
 ghost use Rattle.std.specs.List.{All};
 ghost use Rattle.sat_terms.specs.Literals.{IsLiteral};
 ghost use Rattle.sat_terms.specs.Cubes.{is_among, rises_above};
@@ -40,8 +40,8 @@ pub enum CubeRefused {
 }
 
 impl Cube {
-    /// The cube of these literals, which have to be literals of `shown` with rising variables. Takes
-    /// one search of `shown` by halves for each literal.
+    /// The cube of these literals, which have to be literals of `shown` with rising variables.
+    /// Takes one search of `shown` by halves for each literal.
     pub fn from_lits(alloc: Global, lits: &[i32], shown: &[u32]) -> Result<Cube, CubeRefused>
         requires { IsVariableList shown.now }
         ensures { GivesCube shown.now lits.now result }
@@ -62,6 +62,13 @@ impl Cube {
         ensures { result ≡ lits.items }
     {
         Cube(lits)
+    }
+
+    /// The same cube once more, in memory of its own.
+    pub fn copy(&self, alloc: Global) -> Result<Cube, AllocError>
+        ensures { IfOk result (λ cube. cube ≡ self.now) }
+    {
+        Ok(Cube(self.0.as_slice().to_vec(alloc)?))
     }
 
     /// The literals, variables rising.

@@ -1,17 +1,10 @@
 //! How two cubes lie to each other: apart, within, and their order.
 ghost use Rattle.std.specs.Prelude.{◌≡◌, true};
 ghost use Rattle.sat_terms.specs.Cubes.{rises_above, apart, within};
-ghost use Rattle.sat_terms.specs.CubeOrder.{key, cube_order};
+ghost use Rattle.sat_terms.specs.CubeOrder.{cube_order};
 
+use crate::literal::place_of;
 use std::cmp::Ordering;
-
-/// The number by which a literal stands in the order of cubes: 2v for -v, and 2v + 1 for v.
-fn literal_key(lit: i32) -> u64
-    ensures { result ≡ key lit }
-{
-    let double = 2 * u64::from(lit.unsigned_abs());
-    if lit < 0 { double } else { double + 1 }
-}
 
 /// Compares two cubes by the keys of their literals at the first difference; a proper prefix stands
 /// before the longer cube. Time is that of the shorter list.
@@ -19,8 +12,8 @@ pub fn compare(c: &[i32], d: &[i32]) -> Ordering
     ensures { result ≡ cube_order c.now d.now }
 {
     c.iter()
-        .map(|lit| literal_key(*lit))
-        .cmp(d.iter().map(|lit| literal_key(*lit)))
+        .map(|lit| place_of(*lit))
+        .cmp(d.iter().map(|lit| place_of(*lit)))
 }
 
 /// Whether some literal of `c` is negated in `d`, so that no assignment lies in both. One walk over

@@ -8,7 +8,8 @@ pub struct Formula {
     pub clauses: Items<Clause>,
 }
 
-/// What is to be enumerated: a formula, and the variables on which its models are projected, rising.
+/// What is to be enumerated: a formula, and the variables on which its models are projected,
+/// rising.
 #[derive(Debug, Drop)]
 pub struct Subject {
     pub formula: Formula,

@@ -1,5 +1,5 @@
 //! What the contracts do not say: that the calls succeed, and the answers on worked examples.
-use crate::{Clause, Cube, CubeList, CubeRefused, Items, apart, compare, within};
+use crate::{Clause, Cube, CubeList, CubeRefused, Items, apart, compare, place_of, within};
 use std::cmp::Ordering;
 use std::test::Fail;
 
@@ -126,4 +126,20 @@ fn a_list_of_cubes_is_read_place_by_place(rt: HostRuntime) -> Result<(), Fail> {
     assert_eq!(rt; list.at(0), [-1, 2].as_slice());
     assert_eq!(rt; list.at(1), [1].as_slice());
     Ok(())
+}
+
+#[test]
+fn a_copy_has_the_literals_of_its_cube(rt: HostRuntime) -> Result<(), Fail> {
+    let lits = [-1, 3].to_vec(rt.alloc())?;
+    let cube = Cube::from_vec(lits);
+    assert_eq!(rt; cube.copy(rt.alloc())?.lits(), [-1, 3].as_slice());
+    Ok(())
+}
+
+#[test]
+fn each_literal_has_a_place_of_its_own(rt: HostRuntime) {
+    assert_eq!(rt;
+        [place_of(-1), place_of(1), place_of(-2), place_of(2)],
+        [2, 3, 4, 5]
+    );
 }

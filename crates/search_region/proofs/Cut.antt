@@ -8,7 +8,8 @@ use Rattle.sat_terms.specs.Truth.{sat, holds}
 use Rattle.search_region.specs.Trail.{Item, Kind, Assumed, Decided, Flipped, Turned, Implied, depth, upto, back, flip, turn_over, branches, seen, seen_upto, agrees, chosen_upto, is_assigned, is_flipped, is_branch, is_chosen}
 use Rattle.search_region.specs.Steady.{Steady, Fine, FineKind, IsFull, Follows}
 use Rattle.search_region.specs.Region.{cut, leaves_at}
-use Rattle.search_region.specs.Moves.{is_false_upto, CubeOf}
+use Rattle.search_region.specs.Conflict.{is_false_upto}
+use Rattle.search_region.specs.Model.{CubeOf}
 use Rattle.search_region.proofs.Agree.{agree_head, agree_tail, agree_more, agree_fewer, agree_among, agree_all, levels_within}
 use Rattle.search_region.proofs.Heart.{heart, conflict}
 use Rattle.search_region.proofs.Back.{back_split, depth_back, steady_older, steady_back, newer_forced}
@@ -95,25 +96,25 @@ module _ (f : List (List ℤ)) (shown : ℕ → Bool) where
       t trail (chosen_seen v h trail s unset) a
 
   module _ (newer : List Item) (d : Item) (older : List Item) (s : Steady f shown (newer ++ d ∷ older)) (e : d.kind ≡ Decided) where
-    fine : Fine f shown d older
+    pub fine : Fine f shown d older
     fine = (steady_older f shown newer (d ∷ older) s).0
 
-    old : Steady f shown older
+    pub old : Steady f shown older
     old = (steady_older f shown newer (d ∷ older) s).1
 
-    opens : d.level ≡ suc (depth older)
+    pub opens : d.level ≡ suc (depth older)
     opens = (fine_decided f shown d older fine e).opens
 
-    split : back (depth older) (newer ++ d ∷ older) ≡ back (depth older) newer ++ older
+    pub split : back (depth older) (newer ++ d ∷ older) ≡ back (depth older) newer ++ older
     split = back_split f shown newer d older s opens
 
-    forced : list_all (λ i. not (branches i)) (back (depth older) newer) ≡ true
+    pub forced : list_all (λ i. not (branches i)) (back (depth older) newer) ≡ true
     forced = newer_forced f shown newer d older s (rw e refl) opens
 
-    cut_kept : (t : ℕ → Bool) → cut shown t (back (depth older) (newer ++ d ∷ older)) ≡ cut shown t older
+    pub cut_kept : (t : ℕ → Bool) → cut shown t (back (depth older) (newer ++ d ∷ older)) ≡ cut shown t older
     cut_kept t = ap (cut shown t) split ∙ cut_forced shown t (back (depth older) newer) older forced
 
-    cut_d : (t : ℕ → Bool) → cut shown t (d ∷ older) ≡ cut shown t older
+    pub cut_d : (t : ℕ → Bool) → cut shown t (d ∷ older) ≡ cut shown t older
     cut_d t = cut_unflipped shown t d older (rw e refl)
 
     -- turning a hidden decision over changes nothing here
@@ -130,22 +131,10 @@ module _ (f : List (List ℤ)) (shown : ℕ → Bool) where
         stays = rw (nat_abs-neg d.lit, hides) refl
 
     module _ (shows : seen shown d ≡ true) where
-      -- a solution in the decision's side leaves at the turned decision
-      turned_leaves : (t : ℕ → Bool) → sat f t ≡ true → lit_true t d.lit ≡ true → agrees (seen shown) t older ≡ true → cut shown t older ≡ false → leaves_at shown t (flip (depth older) d) (back (depth older) (newer ++ d ∷ older)) ≡ true
-      turned_leaves t m now a stays =
-          and_from (true && seen shown (flip (depth older) d)) (not (lit_true t (neg_ℤ d.lit)) && agrees (seen shown) t (back (depth older) (newer ++ d ∷ older)))
-          (rw (nat_abs-neg d.lit) shows)
-          (and_from (not (lit_true t (neg_ℤ d.lit))) (agrees (seen shown) t (back (depth older) (newer ++ d ∷ older)))
-          (rw (lit_true-neg t d.lit fine.named, now) refl)
-          (agree_all f shown (depth older) (seen shown) t (back (depth older) (newer ++ d ∷ older)) steady low
-          (heart f shown (depth older) t (back (depth older) (newer ++ d ∷ older)) steady m choices (cut_kept t ∙ stays))))
+      -- a solution that agrees with the older shown items, and hasn't left them, agrees with all that stays
+      pub follows_back : (t : ℕ → Bool) → sat f t ≡ true → agrees (seen shown) t older ≡ true → cut shown t older ≡ false → agrees (upto (depth older)) t (back (depth older) (newer ++ d ∷ older)) ≡ true
+      follows_back t m a stays = heart f shown (depth older) t (back (depth older) (newer ++ d ∷ older)) (steady_back f shown (depth older) (newer ++ d ∷ older) s) m choices (cut_kept t ∙ stays)
         where
-          steady : Steady f shown (back (depth older) (newer ++ d ∷ older))
-          steady = steady_back f shown (depth older) (newer ++ d ∷ older) s
-
-          low : depth (back (depth older) (newer ++ d ∷ older)) ≤ depth older
-          low = let b = depth_back f shown (depth older) (newer ++ d ∷ older) s in omega arith
-
           in_older : agrees (chosen_upto (depth older)) t older ≡ true
           in_older = agree_chosen (depth older) (nat_abs d.lit) t shows older old fine.fresh a
 
@@ -164,6 +153,22 @@ module _ (f : List (List ℤ)) (shown : ℕ → Bool) where
               none_picked : (items : List Item) → agrees (λ i. false) t items ≡ true
               none_picked [] = refl
               none_picked (i ∷ items) = none_picked items
+
+      -- a solution in the decision's side leaves at the turned decision
+      turned_leaves : (t : ℕ → Bool) → sat f t ≡ true → lit_true t d.lit ≡ true → agrees (seen shown) t older ≡ true → cut shown t older ≡ false → leaves_at shown t (flip (depth older) d) (back (depth older) (newer ++ d ∷ older)) ≡ true
+      turned_leaves t m now a stays =
+          and_from (true && seen shown (flip (depth older) d)) (not (lit_true t (neg_ℤ d.lit)) && agrees (seen shown) t (back (depth older) (newer ++ d ∷ older)))
+          (rw (nat_abs-neg d.lit) shows)
+          (and_from (not (lit_true t (neg_ℤ d.lit))) (agrees (seen shown) t (back (depth older) (newer ++ d ∷ older)))
+          (rw (lit_true-neg t d.lit fine.named, now) refl)
+          (agree_all f shown (depth older) (seen shown) t (back (depth older) (newer ++ d ∷ older)) steady low
+          (follows_back t m a stays)))
+        where
+          steady : Steady f shown (back (depth older) (newer ++ d ∷ older))
+          steady = steady_back f shown (depth older) (newer ++ d ∷ older) s
+
+          low : depth (back (depth older) (newer ++ d ∷ older)) ≤ depth older
+          low = let b = depth_back f shown (depth older) (newer ++ d ∷ older) s in omega arith
 
       -- who left before the decision was turned over has left after it
       pub cut_stays : (t : ℕ → Bool) → sat f t ≡ true → cut shown t (newer ++ d ∷ older) ≡ true → cut shown t (turn_over newer d older) ≡ true

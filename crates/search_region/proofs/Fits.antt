@@ -9,13 +9,13 @@ use Rattle.search_region.specs.Trail.{Item, Kind, Assumed, Decided, Flipped, Tur
 use Rattle.search_region.specs.Steady.{Steady, Fine, FineKind}
 use Rattle.search_region.specs.Cubes.{hit, hits, Good, over, Fits}
 use Rattle.search_region.specs.Region.{cut, leaves_at, front, root, is_open, untried, left_open, Closed}
-use Rattle.search_region.specs.Moves.{Running}
+use Rattle.search_region.specs.Running.{Running}
 use Rattle.search_region.proofs.Agree.{agree_head, agree_tail, agree_more, agree_among, agree_all, levels_within}
 use Rattle.search_region.proofs.Heart.{heart, forced_true, flipped_true}
 use Rattle.search_region.proofs.Cut.{chosen_seen, or_false}
 use Rattle.search_region.proofs.Hits.{hits_push, hits_same, holds_same}
-use Rattle.search_region.proofs.Region.{cases_le, root_whole, root_above}
-use Rattle.search_region.proofs.Found.{front_true}
+use Rattle.search_region.proofs.Root.{cases_le, root_whole, root_above}
+use Rattle.search_region.proofs.Model.{front_true}
 use Rattle.sat_terms.proofs.Disjoint.{lit_true-agree, lit_true-neg}
 
 -- the item's literal stands in the prefix that the search is in
@@ -240,8 +240,8 @@ cut_same shown s t e (i ∷ older) = ap₂ (λ a b. a || b) (cut_same shown s t 
     here false h = rw h (no_matter (is_flipped i.kind) (not (lit_true s i.lit) && agrees (seen shown) s older) (not (lit_true t i.lit) && agrees (seen shown) t older))
 
 -- while a search runs, what it found and what it left open fit the prefix
-pub fits : (f : List (List ℤ)) (shown : ℕ → Bool) (base : ℕ) (p : List ℤ) (trail : List Item) (found : List (List ℤ)) → Running f shown base p trail found → Fits f shown p found (left_open shown base trail)
-fits f shown base p trail found r = record {
+pub running_fits : (f : List (List ℤ)) (shown : ℕ → Bool) (base : ℕ) (p : List ℤ) (trail : List Item) (found : List (List ℤ)) → Running f shown base p trail found → Fits f shown p found (left_open shown base trail)
+running_fits f shown base p trail found r = record {
   bound = bound;
   good = r.region.good;
   cover = cover;
@@ -299,8 +299,8 @@ fits f shown base p trail found r = record {
         ]
 
 -- and once it is closed, what it found does
-pub fits_closed : (f : List (List ℤ)) (shown : ℕ → Bool) (p : List ℤ) (found : List (List ℤ)) → Closed f shown p found → Fits f shown p found []
-fits_closed f shown p found h = record {
+pub closed_fits : (f : List (List ℤ)) (shown : ℕ → Bool) (p : List ℤ) (found : List (List ℤ)) → Closed f shown p found → Fits f shown p found []
+closed_fits f shown p found h = record {
   bound = bound;
   good = h.good;
   cover = λ t m. let exact = h.exact t m in omega arith;

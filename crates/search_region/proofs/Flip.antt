@@ -1,17 +1,21 @@
--- Turning a decision over keeps a trail steady.
-use Rattle.std.proofs.Common.{◌≡◌, ℕ, suc, ◌≤◌, Bool, true, false, not, ◌&&◌, ◌||◌, nat_le, nat_eq, ℤ, nat_abs, List, [], ◌∷◌, ◌++◌, refl, ap, subst, ◌∙◌, arith}
+-- Turning a decision over keeps a trail steady, and its region.
+use Rattle.std.proofs.Common.{◌≡◌, ℕ, suc, ◌≤◌, Bool, true, false, not, ◌&&◌, ◌||◌, nat_le, nat_eq, ℤ, nat_abs, List, [], ◌∷◌, ◌++◌, refl, ap, subst, ◌∙◌, arith, ◌<◌, cond, inl, inr}
 use Rattle.std.proofs.lemmas.Bool.{and_parts, or_from, or_right, both_ways, false_from_ne_true, not_from_true, not_from_false, and_left, and_right, leb-true}
 use Rattle.std.proofs.lemmas.List.Folds.{list_any-append}
 use Rattle.sat_terms.specs.Literals.{lit_true}
-use Rattle.search_region.specs.Trail.{Item, Kind, Assumed, Decided, Flipped, Turned, Implied, depth, upto, back, flip, turn_over, branches, seen, agrees, chosen_upto, is_assigned, is_flipped, is_branch, is_chosen}
+use Rattle.search_region.specs.Trail.{Item, Kind, Assumed, Decided, Flipped, Turned, Implied, depth, upto, back, flip, turn_over, turn_with, is_decided, branches, seen, agrees, chosen_upto, is_assigned, is_flipped, is_branch, is_chosen}
 use Rattle.search_region.specs.Steady.{Steady, Fine, FineKind, FineDecided, IsFull, NoneBeside, Follows}
-use Rattle.search_region.specs.Region.{cut, leaves_at}
-use Rattle.search_region.specs.Moves.{is_false_upto}
+use Rattle.search_region.specs.Region.{cut, leaves_at, front, root, Region}
+use Rattle.search_region.specs.Conflict.{is_false_upto}
 use Rattle.search_region.proofs.Agree.{agree_head, agree_tail, agree_more, agree_fewer}
 use Rattle.search_region.proofs.Heart.{conflict}
-use Rattle.search_region.proofs.Back.{back_split, depth_back, depth_rises, steady_older, steady_back, unassigned_newer, none_in_filter}
+use Rattle.search_region.proofs.Back.{back_split, depth_back, depth_rises, steady_older, steady_back, unassigned_newer, none_in_filter, all_in_filter}
+use Rattle.search_region.proofs.Root.{cases_le, front_older, root_whole, root_above, root_older}
 use Rattle.sat_terms.proofs.Disjoint.{lit_true-neg}
 use Rattle.sat_terms.proofs.CubeLemmas.{nat_abs-neg}
+use Rattle.std.specs.List.{list_all}
+use Rattle.sat_terms.specs.Truth.{sat, holds}
+use Rattle.search_region.specs.Cubes.{hits, Good, over}
 
 -- an assignment that agrees with all that stands by no clause never leaves the trail
 pub never_cut : (shown t : ℕ → Bool) (trail : List Item) → agrees branches t trail ≡ true → cut shown t trail ≡ false
@@ -136,3 +140,47 @@ module _ (f : List (List ℤ)) (shown : ℕ → Bool) where
 
       gone : is_assigned (nat_abs d.lit) (back (depth older) newer) ≡ false
       gone = none_in_filter (λ j. nat_eq (nat_abs d.lit) (nat_abs j.lit)) (upto (depth older)) newer (unassigned_newer f shown newer d older s)
+
+module _ (f : List (List ℤ)) (shown : ℕ → Bool) (base : ℕ) (p : List ℤ) where
+  -- an item in a decision's place keeps it, where it isn't chosen itself, and the cubes found are those of before and
+  -- what has newly left
+  pub region_turn : (newer : List Item) (d e : Item) (older : List Item) (found more : List (List ℤ)) → Steady f shown (newer ++ d ∷ older) → Steady f shown (turn_with e newer d older) → d.kind ≡ Decided → is_decided e.kind ≡ false → is_chosen e.kind ≡ false → base < d.level → Region f shown base p (newer ++ d ∷ older) found
+      → list_all (over shown) more ≡ true → ((t : ℕ → Bool) → 0 < hits t more → Good f shown t)
+      → ((t : ℕ → Bool) → sat f t ≡ true → hits t more ≡ cond (holds t p && cut shown t (turn_with e newer d older)) 1 0)
+      → Region f shown base p (turn_with e newer d older) more
+  region_turn newer d e older found more s after decided undecided unchosen above r more_over good exact = record {
+    based = (let on = opens in rw flat (omega arith));
+    found_over = more_over;
+    prefix_over = r.prefix_over;
+    good = good;
+    exact = exact;
+    below = below;
+    above = λ t h. agree_more (chosen_upto base) t e (back (depth older) (newer ++ d ∷ older)) (λ c. absurd (both_ways (is_chosen e.kind) unchosen (and_parts (is_chosen e.kind) (nat_le e.level base) c).0))
+        (all_in_filter (λ i. not (chosen_upto base i) || lit_true t i.lit) (upto (depth older)) (newer ++ d ∷ older) (r.above t h));
+  }
+    where
+      opens : d.level ≡ suc (depth older)
+      opens = (fine_decided f shown d older (steady_older f shown newer (d ∷ older) s).0 decided).opens
+
+      deep : depth (d ∷ older) ≡ d.level
+      deep = rw decided refl
+
+      split : back (depth older) (newer ++ d ∷ older) ≡ back (depth older) newer ++ older
+      split = back_split f shown newer d older s opens
+
+      flat : depth (turn_with e newer d older) ≡ depth older
+      flat = rw undecided (let b = depth_back f shown (depth older) (newer ++ d ∷ older) s in let up = depth_rises f shown newer (d ∷ older) s in let on = opens in let at = deep in omega arith)
+
+      before : root base (newer ++ d ∷ older) ≡ root base older
+      before = let on = opens in let at = deep in root_older f shown base newer (d ∷ older) s (omega arith) ∙ root_above base d older (omega arith)
+
+      shape : turn_with e newer d older ≡ (e ∷ back (depth older) newer) ++ older
+      shape = ap (λ rest. e ∷ rest) split
+
+      below : (t : ℕ → Bool) → holds t (front shown (root base (turn_with e newer d older))) ≡ true → holds t p ≡ true
+      below t h = r.below t (rw before (elim (cases_le (depth older) base) [
+        | inl low ↦ rw (root_whole base older low) (front_older shown t (e ∷ back (depth older) newer) older
+            (subst (λ rest. holds t (front shown rest) ≡ true) (root_whole base (turn_with e newer d older) (rw flat low) ∙ shape) h))
+        | inr high ↦ subst (λ rest. holds t (front shown rest) ≡ true)
+            (ap (root base) shape ∙ root_older f shown base (e ∷ back (depth older) newer) older (subst (Steady f shown) shape after) high) h
+      ]))

@@ -4,7 +4,8 @@ use Rattle.std.specs.List.{list_any, list_all}
 use Rattle.std.specs.Ordering.{int_eq}
 use Rattle.std.proofs.lemmas.Bool.{and_parts, and_from, and_cases, or_cases, or_parts, or_left, or_right, both_ways, not-false, le-leb, lt-leb, leb-true, leb-false, eq-eqb}
 use Rattle.search_region.specs.Trail.{Item, is_flipped, seen}
-use Rattle.search_region.specs.Moves.{is_kept, has_pair, is_met, keeps_flips, reaches}
+use Rattle.search_region.specs.Model.{is_kept, is_met, keeps_flips, reaches}
+use Rattle.sat_terms.specs.Cubes.{has_pair}
 
 -- what is of level at most suc m, and not at most m, is of level suc m
 just : (i : Item) (m : ℕ) → nat_le i.level (suc m) ≡ true → nat_le i.level m ≡ false → nat_eq i.level (suc m) ≡ true

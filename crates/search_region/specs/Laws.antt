@@ -1,20 +1,26 @@
 -- The laws of the search: each move keeps what is running, and what is closed is exact.
 use Rattle.std.specs.Prelude.{◌≡◌, ℕ, suc, ◌<◌, ◌≤◌, ◌↔◌, Bool, true, false, ℤ, nat_abs, List, [], ◌∷◌, ◌++◌}
-use Rattle.std.specs.List.{list_all}
+use Rattle.std.specs.List.{All, list_all}
+use Rattle.std.specs.List.Sorted.{IsStrictlyIncreasing, IsSorted, IsPermutation}
 use Rattle.sat_terms.specs.Truth.{holds}
+use Rattle.sat_terms.specs.Cubes.{IsCube, is_among}
+use Rattle.sat_terms.specs.CubeOrder.{cube_order}
+use Rattle.sat_terms.specs.RightList.{IsRightList}
 use Rattle.search_region.specs.Trail.{Item, Decided, Implied, depth, is_assigned, is_reason, seen, turn_over}
 use Rattle.search_region.specs.Steady.{Steady, Follows, IsFull}
 use Rattle.search_region.specs.Cubes.{hits, Good, Fits}
 use Rattle.search_region.specs.Region.{left_open, Closed}
-use Rattle.search_region.specs.Moves.{Running, is_false_upto, is_met, keeps_flips, reaches, are_named, CubeOf}
+use Rattle.search_region.specs.Running.{Running}
+use Rattle.search_region.specs.Conflict.{is_false_upto}
+use Rattle.search_region.specs.Model.{is_met, keeps_flips, reaches, are_named, CubeOf}
 
 -- The search of everything starts with nothing on the trail and nothing found.
-abbrev pub StartsRunning : Type 0
-StartsRunning = (f : List (List ℤ)) (shown : ℕ → Bool) → Running f shown 0 [] [] []
+abbrev pub StartRuns : Type 0
+StartRuns = (f : List (List ℤ)) (shown : ℕ → Bool) → Running f shown 0 [] [] []
 
 -- A decision keeps the search running, a hidden one once each shown variable is assigned.
-abbrev pub DecisionKeepsRunning : Type 0
-DecisionKeepsRunning =
+abbrev pub DecideKeepsRunning : Type 0
+DecideKeepsRunning =
     (f : List (List ℤ)) (shown : ℕ → Bool) (base : ℕ) (p : List ℤ) (trail : List Item)
     (found : List (List ℤ)) (i : Item) →
     Running f shown base p trail found → i.kind ≡ Decided → i.level ≡ suc (depth trail) →
@@ -23,8 +29,8 @@ DecisionKeepsRunning =
     Running f shown base p (i ∷ trail) found
 
 -- A literal that a clause implies keeps it running.
-abbrev pub ImpliedKeepsRunning : Type 0
-ImpliedKeepsRunning =
+abbrev pub ImplyKeepsRunning : Type 0
+ImplyKeepsRunning =
     (f : List (List ℤ)) (shown : ℕ → Bool) (base : ℕ) (p : List ℤ) (trail : List Item)
     (found : List (List ℤ)) (i : Item) (c : List ℤ) →
     Running f shown base p trail found → i.kind ≡ Implied c → i.level ≤ depth trail →
@@ -85,6 +91,12 @@ abbrev pub ClosedIsExact : Type 0
 ClosedIsExact = (f : List (List ℤ)) (shown : ℕ → Bool) (found : List (List ℤ)) →
     Closed f shown [] found → (t : ℕ → Bool) →
     (hits t found ≤ 1) × (Good f shown t ↔ (0 < hits t found))
+
+-- What a closed search of everything found is the right list, once it is sorted.
+abbrev pub ClosedIsRight : Type 0
+ClosedIsRight = (f : List (List ℤ)) (p : List ℕ) (found cubes : List (List ℤ)) →
+    IsStrictlyIncreasing p → Closed f (is_among p) [] found → All (IsCube p) found →
+    IsPermutation found cubes → IsSorted cube_order cubes → IsRightList f p cubes
 
 -- While the search runs, the cubes found, the prefixes untried and the present prefix are apart and
 -- hold every good assignment of p.

@@ -2,5 +2,9 @@ pub mod Trail
 pub mod Steady
 pub mod Cubes
 pub mod Region
-pub mod Moves
+pub mod Running
+pub mod Conflict
+pub mod Model
 pub mod Laws
+pub mod Work
+pub mod ReadCube

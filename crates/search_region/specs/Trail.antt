@@ -110,7 +110,11 @@ agrees pick t trail = list_all (λ i. not (pick i) || lit_true t i.lit) trail
 abbrev pub flip : ℕ → Item → Item
 flip k d = record { lit = neg_ℤ d.lit; level = k; kind = Flipped }
 
--- The trail newer ++ d ∷ older after its decision d was turned over: what is of older levels stays,
--- and d's negation joins it.
+-- The trail newer ++ d ∷ older after the item e took the place of its decision d: what is of older
+-- levels stays, and e joins it.
+abbrev pub turn_with : Item → List Item → Item → List Item → List Item
+turn_with e newer d older = e ∷ back (depth older) (newer ++ d ∷ older)
+
+-- The same with the negation of d in its place: the decision is turned over.
 abbrev pub turn_over : List Item → Item → List Item → List Item
-turn_over newer d older = flip (depth older) d ∷ back (depth older) (newer ++ d ∷ older)
+turn_over newer d older = turn_with (flip (depth older) d) newer d older

@@ -6,24 +6,25 @@
 //! block a model again: Orna Grumberg, Assaf Schuster, Avi Yadgar, "Memory Efficient All-Solutions
 //! SAT Solver and Its Application for Reachability Analysis", 2004).
 
-ghost use Rattle.search_region.specs.Laws.{StartsRunning, DecisionKeepsRunning};
-ghost use Rattle.search_region.specs.Laws.{ImpliedKeepsRunning, ConflictKeepsRunning};
+ghost use Rattle.search_region.specs.Laws.{StartRuns, DecideKeepsRunning};
+ghost use Rattle.search_region.specs.Laws.{ImplyKeepsRunning, ConflictKeepsRunning};
 ghost use Rattle.search_region.specs.Laws.{ModelKeepsRunning, ConflictCloses, ModelCloses};
-ghost use Rattle.search_region.specs.Laws.{MetCubeIsGood, ClosedIsExact, RunningFits, ClosedFits};
+ghost use Rattle.search_region.specs.Laws.{MetCubeIsGood, ClosedIsExact, ClosedIsRight};
+ghost use Rattle.search_region.specs.Laws.{RunningFits, ClosedFits};
 
 /// The search of everything starts with nothing on the trail and nothing found.
-pub fn starts_running()
-    ensures { StartsRunning }
+pub fn start_runs()
+    ensures { StartRuns }
 {}
 
 /// A decision keeps the search running.
-pub fn decision_keeps_running()
-    ensures { DecisionKeepsRunning }
+pub fn decide_keeps_running()
+    ensures { DecideKeepsRunning }
 {}
 
 /// A literal that a clause implies keeps it running.
-pub fn implied_keeps_running()
-    ensures { ImpliedKeepsRunning }
+pub fn imply_keeps_running()
+    ensures { ImplyKeepsRunning }
 {}
 
 /// A conflict above the base keeps it running, whether its decision is shown or hidden.
@@ -54,6 +55,11 @@ pub fn met_cube_is_good()
 /// A closed search found each good assignment in exactly one cube, and no other in any.
 pub fn closed_is_exact()
     ensures { ClosedIsExact }
+{}
+
+/// So the cubes that a closed search of everything found are the right list, once they are sorted.
+pub fn closed_is_right()
+    ensures { ClosedIsRight }
 {}
 
 /// The cubes found and the prefixes left open are apart and hold every good assignment, at each

@@ -8,7 +8,7 @@ use Rattle.sat_terms.specs.Truth.{sat, holds}
 use Rattle.sat_terms.specs.Cubes.{has_literal}
 use Rattle.sat_terms.proofs.CubeLemmas.{int_eq-true}
 use Rattle.sat_terms.proofs.Disjoint.{lit_true-neg}
-use Rattle.search_region.specs.Moves.{has_pair}
+use Rattle.sat_terms.specs.Cubes.{has_pair}
 use Rattle.search_region.proofs.Literals.{test_from_same}
 use Rattle.unit_closure.specs.Closure.{IsClosed}
 use Rattle.unit_closure.specs.Laws.{HoldsUnits, ArePart, AreAmong, GrowsAlong, ClosesAlong, DerivesWhatFollows, ClosesWhereNoneIsLeft}

@@ -8,7 +8,7 @@ use Rattle.std.proofs.lemmas.List.Folds.{list_all_at}
 use Rattle.sat_terms.specs.Cubes.{has_literal}
 use Rattle.sat_terms.specs.Truth.{sat, sat_clause}
 use Rattle.sat_terms.proofs.CubeLemmas.{int_eq-same, int_eq-true}
-use Rattle.search_region.specs.Moves.{has_pair}
+use Rattle.sat_terms.specs.Cubes.{has_pair}
 
 pub any_of : (p : ℤ → Bool) (c : List ℤ) (l : ℤ) → has_literal c l ≡ true → p l ≡ true → list_any p c ≡ true
 any_of p [] l there h = cc

@@ -4,7 +4,7 @@ use Rattle.std.specs.Prelude.{◌≡◌, Bool, true, false, ◌||◌, List, ℤ,
 use Rattle.std.specs.List.{Contains, list_all}
 use Rattle.std.specs.Ordering.{int_eq}
 use Rattle.sat_terms.specs.Cubes.{has_literal}
-use Rattle.search_region.specs.Moves.{has_pair}
+use Rattle.sat_terms.specs.Cubes.{has_pair}
 
 -- Each literal of the clause but l is negated in the set s.
 abbrev pub rest_is_false : (ℤ → Bool) → List ℤ → ℤ → Bool

@@ -4,7 +4,7 @@ use Rattle.std.specs.List.{Contains}
 use Rattle.sat_terms.specs.Literals.{lit_true}
 use Rattle.sat_terms.specs.Truth.{sat, holds}
 use Rattle.sat_terms.specs.Cubes.{has_literal}
-use Rattle.search_region.specs.Moves.{has_pair}
+use Rattle.sat_terms.specs.Cubes.{has_pair}
 use Rattle.unit_closure.specs.Closure.{InClosure, Closes}
 
 -- The closure holds the literals that it starts from.

@@ -1,6 +1,6 @@
 use Rattle.std.proofs.Common.{◌≡◌, ◌+◌, ◌*◌, ◌≤◌, length, map, take}
 use Rattle.std.specs.List.{All}
-use Rattle.search_region.specs.Moves.{has_pair}
+use Rattle.sat_terms.specs.Cubes.{has_pair}
 use Rattle.plain_search.proofs.pairs.find_pairs.Given as goal
 
 abbrev pub invariant-loop-place : goal.invariant-loop-place

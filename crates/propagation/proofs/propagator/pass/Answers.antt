@@ -8,7 +8,7 @@ use Rattle.chrono_trail.specs.declared.item.Kind.TheVariants.{Implied}
 use Rattle.chrono_trail.specs.Trails.{TrailView, IsTrail}
 use Rattle.chrono_trail.specs.Clauses.{IsUnit, rest_level}
 use Rattle.sat_terms.specs.Literals.{IsLiteralOf}
-use Rattle.propagation.specs.Scans.{IsAtRest}
+use Rattle.chrono_trail.specs.Clauses.{IsAtRest}
 use Rattle.propagation.proofs.Steps.{true_level_low, implied_by, implied_keeps, one_step, and_then, longer, rest_more}
 use Rattle.propagation.proofs.propagator.pass.Goals as goal
 use Rattle.propagation.proofs.propagator.pass.Goals.{in-Unit, in-Neither}

@@ -1,6 +1,6 @@
 use Rattle.std.proofs.Common.{◌≡◌, ℕ, ◌<◌, [], get_or}
 use Rattle.chrono_trail.specs.Trails.{IsTrail}
-use Rattle.propagation.specs.Scans.{IsAtRest}
+use Rattle.chrono_trail.specs.Clauses.{IsAtRest}
 use Rattle.propagation.specs.Steps.{Propagates}
 use Rattle.propagation.proofs.propagator.pass.Given as goal
 

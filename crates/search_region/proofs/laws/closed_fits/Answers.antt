@@ -1,5 +1,5 @@
-use Rattle.search_region.proofs.Fits.{fits_closed}
+use Rattle.search_region.proofs.Fits.{closed_fits}
 use Rattle.search_region.proofs.laws.closed_fits.Goals as goal
 
 pub returns : goal.returns
-returns c = fits_closed
+returns c = closed_fits

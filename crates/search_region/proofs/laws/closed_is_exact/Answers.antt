@@ -1,5 +1,5 @@
 use Rattle.std.proofs.Common.{arith}
-use Rattle.search_region.proofs.Closed.{closed_once, closed_good}
+use Rattle.search_region.proofs.Close.{closed_once, closed_good}
 use Rattle.search_region.proofs.laws.closed_is_exact.Goals as goal
 
 pub returns : goal.returns

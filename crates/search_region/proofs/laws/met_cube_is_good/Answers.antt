@@ -1,5 +1,5 @@
 use Rattle.std.proofs.Common.{◌∙◌, sym}
-use Rattle.search_region.proofs.Found.{implicant_good}
+use Rattle.search_region.proofs.Model.{implicant_good}
 use Rattle.search_region.proofs.laws.met_cube_is_good.Goals as goal
 
 pub returns : goal.returns

@@ -8,7 +8,7 @@ use Rattle.sat_terms.specs.Literals.{IsLiteralOf}
 use Rattle.sat_terms.specs.Subjects.{IsFormula}
 use Rattle.clause_arena.specs.Once.{once}
 use Rattle.clause_arena.proofs.Kept.{all_once_named}
-use Rattle.clause_arena.proofs.Marks.{key-lt}
+use Rattle.sat_terms.proofs.Keys.{key-lt}
 use Rattle.clause_arena.proofs.Making.{IsMade, made_none, made_more, made_short, made_count, made_laid}
 use Rattle.clause_arena.proofs.arena.Arena.make.Goals as goal
 

@@ -1,5 +1,6 @@
 use Rattle.std.proofs.Common.{◌≡◌, ◌<◌, ◌-◌, length, ap, sym, ◌∙◌, arith}
 use Rattle.chrono_trail.proofs.Room.{items_bound}
+use Rattle.propagation.specs.Settled.{IsSettled}
 use Rattle.propagation.proofs.Steps.{and_then, not_shorter}
 use Rattle.propagation.proofs.propagator.Propagator.propagate.Goals as goal
 
@@ -26,3 +27,11 @@ loop-id-preserved c = record {
   level = c.in_default.ensures.level ∙ c.loop-id.invariant.level;
   variables = c.in_default.ensures.variables ∙ c.loop-id.invariant.variables;
 }
+
+pub returns-in-Some-clause-settled : goal.returns-in-Some-clause-settled
+unfolding IsSettled
+returns-in-Some-clause-settled c = c.requires.settled
+
+pub returns-then-items-before-clause-settled : goal.returns-then-items-before-clause-settled
+unfolding IsSettled
+returns-then-items-before-clause-settled c = c.requires.settled

@@ -1,6 +1,0 @@
-use Rattle.std.proofs.Common.{take}
-use Rattle.plain_search.specs.Scans.{AreSet}
-use Rattle.plain_search.proofs.scan.first_free_shown.Given as goal
-
-abbrev pub invariant-loop-place : goal.invariant-loop-place
-invariant-loop-place l = AreSet l.trail.entries (take l.place l.shown)

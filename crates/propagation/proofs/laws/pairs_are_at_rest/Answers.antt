@@ -1,5 +1,0 @@
-use Rattle.propagation.proofs.Pairs.{pair_at_rest}
-use Rattle.propagation.proofs.laws.pairs_are_at_rest.Goals as goal
-
-pub returns : goal.returns
-returns _ = pair_at_rest

@@ -1,5 +1,0 @@
-use Rattle.propagation.proofs.Reasons.{pictured_reason}
-use Rattle.propagation.proofs.laws.reasons_stand_in_the_picture.Goals as goal
-
-pub returns : goal.returns
-returns _ = pictured_reason

@@ -1,0 +1,6 @@
+use Rattle.propagation.specs.Settled.{Watches}
+use Rattle.propagation.proofs.propagator.Propagator.rebuild.Goals as goal
+
+pub returns-clause-watches : goal.returns-clause-watches
+unfolding Watches
+returns-clause-watches c = c.len-count.ensures.length
