@@ -1,0 +1,3 @@
+pub mod Joined
+pub mod Order
+pub mod Space
