@@ -1,0 +1,5 @@
+pub mod Lemmas
+pub mod Marks
+pub mod Walks
+pub mod Lent
+pub mod Laws

@@ -1,0 +1,22 @@
+use Rattle.std.proofs.Common.{◌≡◌, ◌<◌, ◌≤◌, ℕ, ℤ, pos, length, get_or, ap, ◌∙◌, arith, rules}
+use mir.Syntax.{w32}
+use mir.Val.{SFits}
+use Rattle.std.proofs.lemmas.Int.{to_z-of_z}
+use Rattle.std.proofs.lemmas.List.Elements.{All-set}
+use Rattle.sat_terms.specs.CubeOrder.{key}
+use Rattle.sat_terms.proofs.Keys.{key-le}
+use Rattle.implicant_shrink.proofs.Literals.{stamped_more}
+use Rattle.implicant_shrink.proofs.pairs.stamp_literals.Goals as goal
+
+pub loop-lit-preserved : goal.loop-lit-preserved
+loop-lit-preserved c =
+    let i : ℕ = c.loop-lit.lit-index in
+    let m : ℤ = get_or c.args.clause.now i (pos 0) in
+    let inside : i < length c.args.clause.now = c.loop-lit-test.true in
+    let fits : SFits w32 m = search rules in
+    let at : c.place_of.result ≡ key m = c.place_of.ensures ∙ ap key (to_z-of_z w32 m fits) in
+    let room : c.place_of.result < length c.loop-lit.stamps = (let low = key-le m in let wide = c.requires.places i (pos 0) inside in let same = c.loop-lit.auto.stamps in omega arith) in
+    record {
+      literals = stamped_more c.loop-lit.stamps c.args.stamp c.args.clause.now i c.place_of.result inside at room c.loop-lit.invariant.literals;
+      stamped = All-set (λ s. s ≤ c.args.stamp) c.loop-lit.stamps c.place_of.result c.args.stamp (omega arith) c.loop-lit.invariant.stamped;
+    }

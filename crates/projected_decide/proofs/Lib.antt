@@ -1,0 +1,4 @@
+pub mod Filling
+pub mod Lowest
+pub mod Moving
+pub mod Variables
