@@ -1,0 +1,12 @@
+use Rattle.std.proofs.Common.{◌≡◌, length}
+use Rattle.watch_lists.specs.Linked.{IsLinked}
+use Rattle.watch_lists.specs.Nodes.{view_of}
+use Rattle.watch_lists.proofs.Watching.{IsUpto}
+use Rattle.watch_lists.proofs.watches.watch_all.Given as goal
+
+abbrev pub invariant-loop-id : goal.invariant-loop-id
+invariant-loop-id l = record {
+  linked : IsLinked l.nodes.items l.heads.items;
+  count : length l.heads.items ≡ length l.initial.heads.items;
+  upto : IsUpto (view_of l.nodes.items l.heads.items) l.arena.clauses l.id;
+}
