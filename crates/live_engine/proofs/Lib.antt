@@ -1,0 +1,11 @@
+pub mod Looks
+pub mod Implied
+pub mod Decided
+pub mod Moves
+pub mod Turns
+pub mod Literals
+pub mod Tops
+pub mod Prefixes
+pub mod Started
+pub mod Views
+pub mod Marking

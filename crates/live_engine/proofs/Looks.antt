@@ -1,0 +1,148 @@
+-- What looks at the trail tell: of its picture, of models, and of the literals of a cube.
+use Rattle.std.proofs.Common.{◌≡◌, ℕ, ◌<◌, Bool, true, false, cond, ◌||◌, nat_eq, nat_le, ℤ, nat_abs, List, [], ◌∷◌, ◌++◌, length, get_or, take, Option, Some, None, is_some, is_none, refl, sym, ap, subst, ◌∙◌, append_assoc, append-nil, inl, inr, ◌+◌, filter_map, option_to_list, All}
+use Rattle.std.specs.List.{list_any, list_all}
+use Rattle.std.specs.Option.{option_or}
+use Rattle.std.specs.Ordering.{int_eq}
+use Rattle.std.proofs.lemmas.Bool.{and_parts, and_from, both_ways, cases_Bool, eqb-true, eq-eqb, false_from_ne_true, and_cases, or_left, or_right}
+use Rattle.std.proofs.lemmas.List.{take_more}
+use Rattle.std.proofs.lemmas.List.Folds.{find-append}
+use Rattle.std.proofs.lemmas.List.Elements.{filter_map-append, All-head, All-tail}
+use Rattle.sat_terms.specs.Literals.{IsLiteralOf}
+use Rattle.sat_terms.proofs.CubeLemmas.{int_eq-same, int_eq-true}
+use Rattle.search_region.specs.Trail as picture
+use Rattle.search_region.specs.Steady.{Steady}
+use Rattle.search_region.specs.ReadCube.{picked_literal, read_cube}
+use Rattle.search_region.proofs.Back.{unassigned_newer}
+use Rattle.search_region.proofs.Literals.{all_weaker}
+use Rattle.search_region.proofs.ReadCube.{picked_literal-oldest}
+use Rattle.chrono_trail.specs.declared.item.Item.{Item}
+use Rattle.chrono_trail.specs.Items.{item_of, are_distinct}
+use Rattle.chrono_trail.specs.Clauses.{is_true, is_false}
+use Rattle.chrono_trail.specs.Pictures.{pictured, picture_of}
+use Rattle.chrono_trail.proofs.Clauses.{false_from_other}
+use Rattle.chrono_trail.proofs.Items.{none_is}
+use Rattle.chrono_trail.proofs.Pictures.{is_assigned-picture}
+use Rattle.live_engine.specs.declared.deciding.Reached.{Reached}
+use Rattle.live_engine.specs.Walks.{HasReached, AreSetUpto}
+
+-- what follows from what holds of each
+pub all_tests : {X : Type 0} (P : X → Type 0) (test : X → Bool) → ((x : X) → P x → test x ≡ true) → (xs : List X) → All P xs →
+    list_all test xs ≡ true
+all_tests P test h [] all = refl
+all_tests P test h (x ∷ xs) all =
+    and_from (test x) (list_all test xs) (h x (All-head P x xs all)) (all_tests P test h xs (All-tail P x xs all))
+
+-- the items of a steady trail are of distinct variables
+none_from : (o : Option Item) → is_some o ≡ false → is_none o ≡ true
+none_from None h = refl
+none_from (Some i) h = cc
+
+distinct_over : (f clauses : List (List ℤ)) (shown : ℕ → Bool) (items : List Item) (older : List picture.Item) →
+    Steady f shown (picture_of clauses items ++ older) → are_distinct items ≡ true
+distinct_over f clauses shown [] older s = refl
+distinct_over f clauses shown (i ∷ later) older s =
+    let whole = subst (Steady f shown) (append_assoc (picture_of clauses later) (pictured clauses i ∷ []) older) s in
+    and_from (is_none (item_of later (nat_abs i.lit))) (are_distinct later)
+    (none_from (item_of later (nat_abs i.lit)) (sym (is_assigned-picture clauses (nat_abs i.lit) later)
+    ∙ unassigned_newer f shown (picture_of clauses later) (pictured clauses i) older whole))
+    (distinct_over f clauses shown later (pictured clauses i ∷ older) whole)
+
+pub steady_distinct : (f clauses : List (List ℤ)) (shown : ℕ → Bool) (items : List Item) → Steady f shown (picture_of clauses items) →
+    are_distinct items ≡ true
+steady_distinct f clauses shown items s =
+    distinct_over f clauses shown items [] (subst (Steady f shown) (sym (append-nil (picture_of clauses items))) s)
+
+-- there is an item, and it passes the test
+abbrev pub passes : (Item → Bool) → Option Item → Bool
+passes test None = false
+passes test (Some i) = test i
+
+-- a test that only items of one variable pass
+pub any_item : (test : Item → Bool) (v : ℕ) → ((i : Item) → test i ≡ true → nat_abs i.lit ≡ v) →
+    (items : List Item) → are_distinct items ≡ true → list_any test items ≡ passes test (item_of items v)
+any_item test v only [] d = refl
+any_item test v only (i ∷ later) d =
+    let (alone, apart) = and_parts (is_none (item_of later (nat_abs i.lit))) (are_distinct later) d in
+    let rest = any_item test v only later apart in
+    elim (cases_Bool (nat_eq v (nat_abs i.lit))) [
+      | inl same ↦
+          let none = ap (item_of later) (eqb-true v (nat_abs i.lit) same) ∙ none_is (item_of later (nat_abs i.lit)) alone in
+          rw same (ap (λ b. test i || b) (rest ∙ ap (passes test) none) ∙ or_none (test i))
+      | inr other ↦
+          let wrong : test i ≡ false =
+          false_from_ne_true (test i) (λ h. both_ways (nat_eq v (nat_abs i.lit)) other (eq-eqb v (nat_abs i.lit) (sym (only i h)))) in
+          rw (other, wrong) rest
+    ]
+  where
+    or_none : (b : Bool) → (b || false) ≡ b
+    or_none true = refl
+    or_none false = refl
+
+-- the literal that an item gives to the cube of a level
+abbrev pub literal_upto : ℕ → Option Item → Option ℤ
+literal_upto b None = None
+literal_upto b (Some i) = cond (nat_le i.level b) (Some i.lit) None
+
+pub picked_item : (f : List (List ℤ)) (b : ℕ) (items : List Item) (v : ℕ) → are_distinct items ≡ true →
+    picked_literal (picture.upto b) (picture_of f items) v ≡ literal_upto b (item_of items v)
+picked_item f b [] v d = refl
+picked_item f b (i ∷ later) v d =
+    let (alone, apart) = and_parts (is_none (item_of later (nat_abs i.lit))) (are_distinct later) d in
+    let none = none_is (item_of later (nat_abs i.lit)) alone in
+    picked_literal-oldest (picture.upto b) (picture_of f later) (pictured f i) v
+    (is_assigned-picture f (nat_abs i.lit) later ∙ ap is_some none)
+    ∙ ap (λ o. cond (nat_eq v (nat_abs i.lit)) (cond (nat_le i.level b) (Some i.lit) None) o) (picked_item f b later v apart)
+    ∙ elim (cases_Bool (nat_eq v (nat_abs i.lit))) [ inl same ↦ rw same refl | inr other ↦ rw other refl ]
+
+-- a variable that is set stays so while items join, and so does what the walk for a free one has passed
+set_stays : (old added : List Item) (v : ℕ) → is_some (item_of old v) ≡ true → is_some (item_of (old ++ added) v) ≡ true
+set_stays old added v h = ap is_some (find-append (λ i. nat_eq v (nat_abs i.lit)) old added) ∙ first (item_of old v) h
+  where
+    first : (o : Option Item) → is_some o ≡ true → is_some (option_or o (item_of added v)) ≡ true
+    first None g = cc
+    first (Some i) g = refl
+
+pub reached_stays : (old added : List Item) (p : List ℕ) (reached : Reached) → HasReached old p reached →
+    HasReached (old ++ added) p reached
+reached_stays old added p reached h = record {
+  shown = all_weaker (λ v. is_some (item_of old v)) (λ v. is_some (item_of (old ++ added) v)) (set_stays old added)
+      (take reached.shown p) h.shown;
+  variables = λ v low high. set_stays old added v (h.variables v low high);
+}
+
+-- ---- where each variable is set and no clause is false, each clause has a true literal
+
+module _ (items : List Item) (n : ℕ) (distinct : are_distinct items ≡ true) (set : AreSetUpto items n) where
+  true_literal : (l : ℤ) → IsLiteralOf n l → is_false items l ≡ false → is_true items l ≡ true
+  true_literal l named off =
+      any_item (λ i. int_eq l i.lit) (nat_abs l) (λ i same. ap nat_abs (sym (int_eq-true l i.lit same))) items distinct
+      ∙ at_item (item_of items (nat_abs l)) refl (set (nat_abs l) named.0 named.1)
+    where
+      at_item : (o : Option Item) → item_of items (nat_abs l) ≡ o → is_some o ≡ true → passes (λ i. int_eq l i.lit) o ≡ true
+      at_item None e some = cc
+      at_item (Some i) e some = elim (cases_Bool (int_eq l i.lit)) [
+        | inl same ↦ same
+        | inr other ↦ absurd (both_ways (is_false items l) off (false_from_other items l i e
+            (λ same. both_ways (int_eq l i.lit) other (ap (int_eq l) same ∙ int_eq-same l))))
+      ]
+
+  pub true_clause : (c : List ℤ) → All (IsLiteralOf n) c → list_all (is_false items) c ≡ false → list_any (is_true items) c ≡ true
+  true_clause [] named off = sym off
+  true_clause (l ∷ c) named off = elim (and_cases (is_false items l) (list_all (is_false items) c) off) [
+    | inl here ↦ or_left (is_true items l) (list_any (is_true items) c) (true_literal l (All-head (IsLiteralOf n) l c named) here)
+    | inr rest ↦ or_right (is_true items l) (list_any (is_true items) c) (true_clause c (All-tail (IsLiteralOf n) l c named) rest)
+  ]
+
+-- ---- walks over variables
+
+-- one more variable
+pub cube_more : (pick : picture.Item → Bool) (trail : List picture.Item) (p : List ℕ) (i d : ℕ) → i < length p →
+    read_cube pick trail (take (i + 1) p) ≡ read_cube pick trail (take i p) ++ option_to_list (picked_literal pick trail (get_or p i d))
+cube_more pick trail p i d inside =
+    ap (read_cube pick trail) (take_more p i d inside)
+    ∙ filter_map-append (picked_literal pick trail) (take i p) (get_or p i d ∷ [])
+    ∙ ap (λ rest. read_cube pick trail (take i p) ++ rest) (as_list (picked_literal pick trail (get_or p i d)))
+  where
+    as_list : (o : Option ℤ) → filter_map (λ (x : ℕ). o) (0 ∷ []) ≡ option_to_list o
+    as_list None = refl
+    as_list (Some l) = refl

@@ -1,0 +1,82 @@
+//! Starts: the search of a subject, and a job of it from a prefix.
+ghost use Rattle.std.specs.Prelude.{◌≡◌, ◌<◌, ◌^◌, [], true, List, ℤ, IfOk};
+ghost use Rattle.std.specs.List.{All};
+ghost use Rattle.sat_terms.specs.Literals.{IsLiteralOf};
+ghost use Rattle.sat_terms.specs.Cubes.{IsCube, rises_above};
+ghost use Rattle.sat_terms.specs.Subjects.{IsSubject};
+ghost use Rattle.search_job.specs.Reasons.{assume_all};
+ghost use Rattle.chrono_trail.specs.Trails.{IsTrail};
+ghost use Rattle.chrono_trail.specs.Pictures.{picture_of};
+ghost use Rattle.live_engine.specs.Searching.{IsGround};
+ghost use Rattle.live_engine.specs.Starts.{IsOf, Begins};
+
+use crate::deciding::Reached;
+use crate::search::Search;
+use chrono_trail::{Kind, Trail};
+use clause_arena::Arena;
+use propagation::Propagator;
+use sat_terms::{Cube, Subject};
+use std::alloc::{AllocError, Global};
+
+impl Search {
+    /// A search of the subject, without a job.
+    pub(crate) fn make(alloc: Global, subject: &Subject) -> Result<Search, AllocError>
+        requires { IsSubject subject.now.formula.variables subject.now.formula.clauses
+            subject.now.shown }
+        ensures ground { IfOk result IsGround }
+        ensures subject { IfOk result (IsOf subject.now) }
+        ensures found { IfOk result (λ search. search.found.items ≡ []) }
+        ensures leaves { IfOk result (λ search. search.leaves ≡ 0) }
+    {
+        let variables = subject.formula.variables;
+        let arena = Arena::make(alloc, &subject.formula)?;
+        let propagator = Propagator::make(alloc, &arena, variables)?;
+        Ok(Search {
+            variables,
+            arena,
+            propagator,
+            trail: Trail::make(alloc, variables)?,
+            reached: Reached::none(),
+            shown: subject.shown.as_slice().to_vec(alloc)?,
+            prefix: Cube::from_vec(Vec::new(alloc)),
+            base: 0,
+            counts: vec![in alloc; 0u64; variables as usize + 1]?,
+            leaves: 0,
+            found: Vec::new(alloc),
+        })
+    }
+
+    /// Starts the job of a prefix: its literals are assumed, on a trail without any item, so that
+    /// none of them is found implied.
+    pub(crate) fn begin(&mut self, prefix: Cube)
+        requires ground { IsGround self.old }
+        requires prefix { IsCube self.old.shown.items prefix }
+        requires found { self.old.found.items ≡ [] }
+        ensures { Begins self.old self.new prefix }
+    {
+        self.trail.clear();
+        assume(&mut self.trail, prefix.lits());
+        self.prefix = prefix;
+        self.reached = Reached::none();
+        self.base = 0;
+        self.leaves = 0;
+    }
+}
+
+/// Puts the literals of a prefix on an empty trail.
+fn assume(trail: &mut Trail, prefix: &[i32])
+    requires small { trail.old.variables < 2 ^ 31 }
+    requires empty { trail.old.items ≡ [] }
+    requires lowest { trail.old.level ≡ 0 }
+    requires rising { rises_above 0 prefix.now ≡ true }
+    requires named { All (IsLiteralOf trail.old.variables) prefix.now }
+    ensures items { (f : List (List ℤ)) → picture_of f trail.new.items ≡ assume_all prefix.now [] }
+    ensures level { trail.new.level ≡ 0 }
+    ensures variables { trail.new.variables ≡ trail.old.variables }
+    ensures seen { trail.new.seen ≡ trail.old.seen }
+    ensures trail { IsTrail trail.new.variables trail.new.items trail.new.level }
+{
+    for lit in prefix {
+        trail.assign(*lit, 0, Kind::Assumed);
+    }
+}
