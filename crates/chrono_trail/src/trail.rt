@@ -260,7 +260,8 @@ fn free(given: &mut Vec<Option<Item>>, items: &[Item], least: u32)
 }
 
 /// Keeps the items of this level and below, in their order. Those before `start` are, and are not
-/// looked at; the one at `start` goes. Answers how many of the first `seen` it keeps.
+/// looked at; the one at `start` goes. Literals of low levels may stand anywhere behind it, so that
+/// the walk goes on to the newest item. Answers how many of the first `seen` it keeps.
 fn keep_upto(items: &mut Vec<Item>, start: usize, level: u32, seen: usize) -> usize
     requires within { start ≤ length items.old.items }
     requires first { IsAboveAt level items.old.items start }

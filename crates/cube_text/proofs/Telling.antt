@@ -7,7 +7,8 @@ use Rattle.std.specs.Fmt.{decimal, signed_decimal}
 use Rattle.std.proofs.lemmas.List.Elements.{All-head, All-tail}
 use Rattle.std.proofs.lemmas.Fmt.{decimal_by_steps, decimal_nonempty, signed_decimal_injective}
 use Rattle.sat_terms.specs.Literals.{IsLiteral}
-use Rattle.cube_text.specs.Lines.{ended, number_word, zero_ended}
+use Rattle.dimacs_tokens.specs.Texts.{ended}
+use Rattle.cube_text.specs.Lines.{number_word, zero_ended}
 use Rattle.cube_text.specs.Listing.{cube_line, listing}
 use Rattle.cube_text.specs.Laws.{TellsTheCubes}
 

@@ -2,7 +2,8 @@
 use Rattle.std.proofs.Common.{◌≡◌, ℕ, ◌+◌, ◌<◌, ◌≤◌, List, [], ◌∷◌, ◌++◌, length, take, drop, get_or, map, flat_map, ℤ, pos, codes, sym, ◌∙◌, ap, append_assoc}
 use Rattle.std.proofs.lemmas.List.{append-nil, map-append, take_more, take_all, take-append-drop}
 use Rattle.std.proofs.lemmas.List.Concat.{flat_map-append}
-use Rattle.cube_text.specs.Lines.{ended, text_of, number_word, zero_ended}
+use Rattle.dimacs_tokens.specs.Texts.{ended, text_of}
+use Rattle.cube_text.specs.Lines.{number_word, zero_ended}
 use Rattle.cube_text.specs.Listing.{cube_line, listing}
 
 -- one more number

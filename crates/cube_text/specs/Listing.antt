@@ -1,6 +1,7 @@
 -- The listing of cubes.
 use Rattle.std.specs.Prelude.{ℕ, List, [], ◌∷◌, ◌++◌, map, ℤ, codes}
-use Rattle.cube_text.specs.Lines.{text_of, zero_ended}
+use Rattle.dimacs_tokens.specs.Texts.{text_of}
+use Rattle.cube_text.specs.Lines.{zero_ended}
 
 -- the line of a cube, as `v -1 2 0`; that of the empty cube is `v 0`
 abbrev pub cube_line : List ℤ → List ℕ

@@ -1,7 +1,8 @@
 //! Lines of numbers.
 ghost use Rattle.std.specs.Prelude.{◌++◌};
 ghost use Rattle.cube_text.specs.Buffered.{HandsIn};
-ghost use Rattle.cube_text.specs.Lines.{ended, number_word, zero_ended};
+ghost use Rattle.dimacs_tokens.specs.Texts.{ended};
+ghost use Rattle.cube_text.specs.Lines.{number_word, zero_ended};
 
 use crate::Buffered;
 use fault_io::Sink;

@@ -5,7 +5,9 @@ use Rattle.std.proofs.lemmas.Bool.{cond-false, not-true, not_from_false, and_par
 use Rattle.std.proofs.lemmas.List.Sums.{fold-append}
 use Rattle.dimacs_tokens.specs.Bytes.{is_newline}
 use Rattle.dimacs_tokens.specs.Cuts.{Cut, with_part, line_byte, nothing_cut, cut_lines, lines}
-use Rattle.dimacs_tokens.specs.Laws.{is_line, ended, text_of, EndedLinesAreLines}
+use Rattle.dimacs_tokens.specs.Seen.{is_nil}
+use Rattle.dimacs_tokens.specs.Texts.{is_line, ended, text_of}
+use Rattle.dimacs_tokens.specs.Laws.{EndedLinesAreLines, ALastLineNeedsNoEnd}
 
 abbrev cut_at : List (List ℕ) → List ℕ → Cut
 cut_at w p = record { whole = w; open_part = p }
@@ -31,6 +33,19 @@ fold-text w (l ∷ ls) h =
 pub lines-text_of : EndedLinesAreLines
 unfolding cut_lines
 lines-text_of ls h = ap (λ c. with_part c.whole c.open_part) (fold-text [] ls h)
+
+with_some : (ws : List (List ℕ)) (p : List ℕ) → is_nil p ≡ false → with_part ws p ≡ ws ++ p ∷ []
+with_some ws [] h = absurd (cc)
+with_some ws (b ∷ bs) h = refl
+
+pub last_line-open : ALastLineNeedsNoEnd
+unfolding cut_lines
+last_line-open ls line h l some =
+    ap (λ c. with_part c.whole c.open_part)
+    (fold-append line_byte nothing_cut (text_of ls) line
+    ∙ ap (λ c. fold line_byte c line) (fold-text [] ls h)
+    ∙ fold-line ls [] line l)
+    ∙ with_some ls line some
 
 -- a test of each element, with one more
 pub list_all_push : {X : Type 0} (p : X → Bool) (xs : List X) (x : X) → list_all p xs ≡ true → p x ≡ true → list_all p (xs ++ x ∷ []) ≡ true

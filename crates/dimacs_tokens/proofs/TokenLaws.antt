@@ -2,11 +2,14 @@
 use Rattle.std.proofs.Common.{◌≡◌, ℕ, Bool, true, false, not, cond, List, [], ◌∷◌, ◌++◌, fold, sym, refl, ap, ◌∙◌, append-nil, append_assoc}
 use Rattle.std.specs.Prelude.{flat_map, filter}
 use Rattle.std.specs.List.{list_all}
-use Rattle.std.proofs.lemmas.Bool.{not_from_false, and_parts, and_from}
+use Rattle.std.proofs.lemmas.Bool.{cond-true, cond-false, not-true, not_from_false, and_parts, and_from}
 use Rattle.std.proofs.lemmas.List.{flat_map_more}
+use Rattle.std.proofs.lemmas.List.Sums.{fold-append}
 use Rattle.dimacs_tokens.specs.Bytes.{is_newline, is_white}
 use Rattle.dimacs_tokens.specs.Cuts.{Cut, with_part, token_byte, nothing_cut, cut_tokens, lines, tokens}
-use Rattle.dimacs_tokens.specs.Laws.{is_line, is_plain, is_token, OnlyTokensAreCut, NoByteIsLost}
+use Rattle.dimacs_tokens.specs.Seen.{is_nil}
+use Rattle.dimacs_tokens.specs.Texts.{is_line}
+use Rattle.dimacs_tokens.specs.Laws.{is_plain, is_token, OnlyTokensAreCut, NoByteIsLost, PartedTokensAreCut}
 use Rattle.dimacs_tokens.proofs.LineLaws.{IsClean, list_all_push, lines_are_lines}
 
 abbrev cut_at : List (List ℕ) → List ℕ → Cut
@@ -73,3 +76,45 @@ fold_keeps c (b ∷ bs) =
 pub no_byte_lost : NoByteIsLost
 unfolding cut_tokens
 no_byte_lost line = fold_keeps nothing_cut line
+
+-- the bytes of a token join the open part, and white space behind it ends it
+fold-plain : (w : List (List ℕ)) (p bs : List ℕ) → list_all is_plain bs ≡ true → fold token_byte (cut_at w p) bs ≡ cut_at w (p ++ bs)
+fold-plain w p [] h = ap (cut_at w) (sym (append-nil p))
+fold-plain w p (b ∷ bs) h =
+    let k = and_parts (is_plain b) (list_all is_plain bs) h in
+    let dark = not-true (is_white b) (and_parts (not (is_white b)) (not (is_newline b)) k.0).0 in
+    ap (λ c. fold token_byte c bs) (cond-false (is_white b) (cut_at (with_part w p) []) (cut_at w (p ++ b ∷ [])) dark)
+    ∙ fold-plain w (p ++ b ∷ []) bs k.1
+    ∙ ap (cut_at w) (append_assoc p (b ∷ []) bs)
+
+fold-white : (w : List (List ℕ)) (gap : List ℕ) → list_all is_white gap ≡ true → fold token_byte (cut_at w []) gap ≡ cut_at w []
+fold-white w [] h = refl
+fold-white w (b ∷ bs) h =
+    let k = and_parts (is_white b) (list_all is_white bs) h in
+    ap (λ c. fold token_byte c bs) (cond-true (is_white b) (cut_at w []) (cut_at w (b ∷ [])) k.0) ∙ fold-white w bs k.1
+
+fold-gap : (w : List (List ℕ)) (p gap : List ℕ) → is_nil gap ≡ false → list_all is_white gap ≡ true → fold token_byte (cut_at w p) gap ≡ cut_at (with_part w p) []
+fold-gap w p [] some h = absurd (cc)
+fold-gap w p (b ∷ bs) some h =
+    let k = and_parts (is_white b) (list_all is_white bs) h in
+    ap (λ c. fold token_byte c bs) (cond-true (is_white b) (cut_at (with_part w p) []) (cut_at w (p ++ b ∷ [])) k.0)
+    ∙ fold-white (with_part w p) bs k.1
+
+with_token : (w : List (List ℕ)) (t : List ℕ) → is_token t ≡ true → with_part w t ≡ w ++ t ∷ []
+with_token w [] h = absurd (cc)
+with_token w (b ∷ bs) h = refl
+
+fold-tokens : (w ts : List (List ℕ)) (gap : List ℕ) → list_all is_token ts ≡ true → is_nil gap ≡ false → list_all is_white gap ≡ true → fold token_byte (cut_at w []) (flat_map (λ t. t ++ gap) ts) ≡ cut_at (w ++ ts) []
+fold-tokens w [] gap h some g = ap (λ v. cut_at v []) (sym (append-nil w))
+fold-tokens w (t ∷ ts) gap h some g =
+    let k = and_parts (is_token t) (list_all is_token ts) h in
+    let plain = (and_parts (not (is_nil t)) (list_all is_plain t) k.0).1 in
+    fold-append token_byte (cut_at w []) (t ++ gap) (flat_map (λ u. u ++ gap) ts)
+    ∙ ap (λ c. fold token_byte c (flat_map (λ u. u ++ gap) ts)) (fold-append token_byte (cut_at w []) t gap ∙ ap (λ c. fold token_byte c gap) (fold-plain w [] t plain) ∙ fold-gap w t gap some g ∙ ap (λ v. cut_at v []) (with_token w t k.0))
+    ∙ fold-tokens (w ++ t ∷ []) ts gap k.1 some g
+    ∙ ap (λ v. cut_at v []) (append_assoc w (t ∷ []) ts)
+
+pub parted_tokens : PartedTokensAreCut
+unfolding cut_tokens
+parted_tokens ts gap h some g =
+    ap (λ c. with_part c.whole c.open_part) (fold-tokens [] ts gap h some g)

@@ -1,5 +1,5 @@
 -- What holds of lines, tokens and numbers, said without the folds that cut them.
-use Rattle.std.specs.Prelude.{◌≡◌, ℕ, ◌<◌, Bool, true, false, not, ◌&&◌, List, ◌++◌, length, flat_map, filter, ℤ, nat_abs, codes, Some}
+use Rattle.std.specs.Prelude.{◌≡◌, ℕ, ◌<◌, Bool, true, false, not, ◌&&◌, List, [], ◌∷◌, ◌++◌, length, flat_map, filter, ℤ, nat_abs, codes, Some}
 use Rattle.std.specs.List.{list_all}
 use Rattle.std.specs.Str.{bytes_eq, all_ascii_digits}
 use Rattle.std.specs.Fmt.{signed_decimal}
@@ -7,22 +7,17 @@ use Rattle.dimacs_tokens.specs.Bytes.{is_newline, is_white}
 use Rattle.dimacs_tokens.specs.Cuts.{lines, tokens}
 use Rattle.dimacs_tokens.specs.Numbers.{size_cap, token_value}
 use Rattle.dimacs_tokens.specs.Seen.{seen, is_nil}
-
--- a line without byte 10
-abbrev pub is_line : List ℕ → Bool
-is_line line = list_all (λ b. not (is_newline b)) line
-
--- a line and the byte 10 that ends it
-abbrev pub ended : List ℕ → List ℕ
-ended line = line ++ codes "\n"
-
--- the text of these lines
-abbrev pub text_of : List (List ℕ) → List ℕ
-text_of ls = flat_map ended ls
+use Rattle.dimacs_tokens.specs.Texts.{is_line, text_of}
 
 -- the lines of a text that ends its lines are just these
 abbrev pub EndedLinesAreLines : Type 0
 EndedLinesAreLines = (ls : List (List ℕ)) → list_all is_line ls ≡ true → lines (text_of ls) ≡ ls
+
+-- and a last line of at least one byte needs no byte 10
+abbrev pub ALastLineNeedsNoEnd : Type 0
+ALastLineNeedsNoEnd =
+    (ls : List (List ℕ)) (line : List ℕ) → list_all is_line ls ≡ true → is_line line ≡ true →
+    is_nil line ≡ false → lines (text_of ls ++ line) ≡ ls ++ line ∷ []
 
 -- neither white space nor byte 10
 abbrev pub is_plain : ℕ → Bool
@@ -41,6 +36,12 @@ OnlyTokensAreCut =
 abbrev pub NoByteIsLost : Type 0
 NoByteIsLost =
     (line : List ℕ) → flat_map (λ t. t) (tokens line) ≡ filter (λ b. not (is_white b)) line
+
+-- tokens with white space behind each are cut into just these
+abbrev pub PartedTokensAreCut : Type 0
+PartedTokensAreCut =
+    (ts : List (List ℕ)) (gap : List ℕ) → list_all is_token ts ≡ true → is_nil gap ≡ false →
+    list_all is_white gap ≡ true → tokens (flat_map (λ t. t ++ gap) ts) ≡ ts
 
 -- the token that writes a number has this value
 abbrev pub WrittenNumbersHaveTheirValue : Type 0

@@ -4,3 +4,4 @@ pub mod Laws
 pub mod Numbers
 pub mod Reading
 pub mod Seen
+pub mod Texts

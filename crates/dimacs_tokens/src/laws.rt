@@ -1,10 +1,15 @@
 //! What holds of lines, tokens and numbers, said without the way in which they are cut: each
 //! function is the statement that it ensures, and does nothing.
-ghost use Rattle.dimacs_tokens.specs.Laws.{EndedLinesAreLines, OnlyTokensAreCut, NoByteIsLost, WrittenNumbersHaveTheirValue, LeadingZerosChangeNothing, WordsAreToldByHead};
+ghost use Rattle.dimacs_tokens.specs.Laws.{EndedLinesAreLines, ALastLineNeedsNoEnd, OnlyTokensAreCut, NoByteIsLost, PartedTokensAreCut, WrittenNumbersHaveTheirValue, LeadingZerosChangeNothing, WordsAreToldByHead};
 
 /// The lines of a text that ends each line by byte 10 are just these lines.
 pub fn ended_lines_are_lines()
     ensures { EndedLinesAreLines }
+{}
+
+/// A last line of at least one byte is a line without byte 10 behind it.
+pub fn a_last_line_needs_no_end()
+    ensures { ALastLineNeedsNoEnd }
 {}
 
 /// A token has at least one byte, no white space and no byte 10.
@@ -15,6 +20,11 @@ pub fn only_tokens_are_cut()
 /// The tokens of a line hold all its bytes that are no white space, in order.
 pub fn no_byte_is_lost()
     ensures { NoByteIsLost }
+{}
+
+/// Tokens that are written with white space behind each are read back.
+pub fn parted_tokens_are_cut()
+    ensures { PartedTokensAreCut }
 {}
 
 /// A number that is written in decimal is read back.

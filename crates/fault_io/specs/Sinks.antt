@@ -39,7 +39,7 @@ pub record HandsOn (old new : SinkView) : Type 0 where
 abbrev pub Finishes : {T E : Type 0} → SinkView → SinkView → Result T E → Type 0
 Finishes old new result = MatchResult result (λ _. HandsOn old new) (λ _. SinkFails old new)
 
--- it took a front of the text and no other byte, and then failed
+-- it took a front of the text and no other byte, and it failed
 pub record TakesFront (old new : SinkView) (text : List ℕ) : Type 0 where
   pub gone : List ℕ
   pub rest : List ℕ
@@ -48,7 +48,7 @@ pub record TakesFront (old new : SinkView) (text : List ℕ) : Type 0 where
   pub rose : Rose old.faults new.faults
   pub finished : FinishedAfter (length gone) old.finished new.finished
 
--- it took the whole text, or a front of it and then failed
+-- it took the whole text, or a front of it and failed
 abbrev pub TakesWhole : {T E : Type 0} → SinkView → SinkView → List ℕ → Result T E → Type 0
 TakesWhole old new text result = MatchResult result
     (λ _. TakesBytes old new text)

@@ -1,4 +1,3 @@
 pub mod Kept
 pub mod Least
-pub mod Literals
 pub mod Tried

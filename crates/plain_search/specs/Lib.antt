@@ -2,4 +2,3 @@ pub mod Walks
 pub mod Searching
 pub mod Steps
 pub mod SmallSubjects
-pub mod Stamps

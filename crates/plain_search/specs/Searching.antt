@@ -22,7 +22,7 @@ left s search = work s.formula.variables (pictured_trail s search)
 
 -- The search of a subject runs, from nothing assigned and nothing found.
 pub record IsSearching (s : Subject) (search : Search) : Type 0 where
-  pub subject : IsSubject s.formula.variables s.formula.clauses s.shown
+  pub subject : IsSubject s.formula.variables s.formula.clauses s.shown s.under
   pub running : Running s.formula.clauses (is_among s.shown) 0 [] (pictured_trail s search)
       search.found.items
   pub current : search.trail.level ≡ picture.depth (pictured_trail s search)

@@ -62,13 +62,16 @@ fn are_variables_of(shown: &[u32], variables: u32) -> bool
     true
 }
 
-/// Whether this is a subject of at most 1,000,000 variables, with few clauses.
+/// Whether this is a subject of at most 1,000,000 variables, with few clauses and no given literals.
 pub(crate) fn is_subject(subject: &Subject) -> bool
     ensures { result ≡ true → IsSubject subject.now.formula.variables
-        subject.now.formula.clauses subject.now.shown }
+        subject.now.formula.clauses subject.now.shown subject.now.under }
 {
     let variables = subject.formula.variables;
     let shown = subject.shown.as_slice();
+    if !subject.under.lits().is_empty() {
+        return false;
+    }
     if variables > 1_000_000 || !is_rising(shown) || !are_variables_of(shown, variables) {
         return false;
     }

@@ -191,6 +191,7 @@ fn four_hundred_formulas_are_listed_right_under_all_projections(
             let subject = Subject {
                 formula: Formula { variables, clauses },
                 shown: Items::from_vec(list_of(alloc, shown)?),
+                under: Cube::from_vec(Vec::new(alloc)),
             };
             compare_with_definition(&rt, alloc, &subject, shown)?;
         }

@@ -1,5 +1,5 @@
 //! The search, and the loop that makes its moves.
-ghost use Rattle.std.specs.Prelude.{IfOk};
+ghost use Rattle.std.specs.Prelude.{[], IfOk};
 ghost use Rattle.sat_terms.specs.RightList.{IsRightList};
 ghost use Rattle.sat_terms.specs.Subjects.{IsSubject};
 ghost use Rattle.plain_search.specs.Searching.{IsSearching, Advances};
@@ -28,7 +28,7 @@ impl Search {
     /// The search that has nothing assigned and nothing found.
     fn make(alloc: Global, subject: &Subject) -> Result<Search, AllocError>
         requires { IsSubject subject.now.formula.variables subject.now.formula.clauses
-            subject.now.shown }
+            subject.now.shown subject.now.under }
         ensures { IfOk result (IsSearching subject.now) }
     {
         Ok(Search {
@@ -62,14 +62,14 @@ impl Search {
     }
 }
 
-/// All solutions of the subject's formula, projected on its shown variables: the right list of it,
-/// sorted and pairwise apart. The time grows with the number of branches: each walks over the
+/// All solutions of the subject's formula, projected on its shown variables, whatever its given
+/// literals: the right list of it, sorted and pairwise apart. The time grows with the number of branches: each walks over the
 /// variables once, and scans all clauses after each decision and each round of implied literals.
 /// Memory is that of the formula's variables, of a mark for each clause, and of the list.
 pub fn enumerate_plain(alloc: Global, subject: &Subject) -> Result<Vec<Cube>, AllocError>
     requires { IsSubject subject.now.formula.variables subject.now.formula.clauses
-        subject.now.shown }
-    ensures { IfOk result (λ cubes. IsRightList subject.now.formula.clauses subject.now.shown
+        subject.now.shown subject.now.under }
+    ensures { IfOk result (λ cubes. IsRightList subject.now.formula.clauses subject.now.shown []
         cubes.items) }
 {
     let mut search = Search::make(alloc, subject)?;

@@ -4,7 +4,6 @@ ghost use Rattle.std.specs.Prelude.{◌≡◌, ℕ, ◌≤◌, ◌||◌, nat_le,
 ghost use Rattle.std.specs.List.{All};
 ghost use Rattle.std.specs.List.Sorted.{IsStrictlyIncreasing};
 ghost use Rattle.sat_terms.specs.Literals.{IsLiteralOf};
-ghost use Rattle.sat_terms.specs.Cubes.{is_among};
 ghost use Rattle.plain_search.specs.Searching.{IsSearching};
 ghost use Rattle.plain_search.specs.Steps.{IsModel, IsLeastLevel, Shrinks, level_within};
 ghost use Rattle.plain_search.specs.Steps.{is_shown_flip, flips_within, needs_within};
@@ -12,7 +11,7 @@ ghost use Rattle.plain_search.specs.Steps.{counts_within, counts_any, cube_withi
 
 use crate::search::Search;
 use chrono_trail::{Item, Kind};
-use sat_terms::{Cube, Subject};
+use sat_terms::{Cube, Subject, is_shown};
 use std::alloc::{AllocError, Global};
 
 impl Search {
@@ -136,12 +135,4 @@ fn is_shown_flip(subject: &Subject, item: &Item) -> bool
         Kind::Flipped => is_shown(subject.shown.as_slice(), item.lit.unsigned_abs()),
         Kind::Assumed | Kind::Decided | Kind::Turned(_) | Kind::Implied(_) => false,
     }
-}
-
-/// Whether a variable is one of the shown ones, by halves.
-fn is_shown(shown: &[u32], variable: u32) -> bool
-    requires { IsStrictlyIncreasing shown.now }
-    ensures { result ≡ is_among shown.now variable }
-{
-    shown.binary_search(&variable).is_ok()
 }

@@ -37,6 +37,7 @@ fn subject(
             clauses: Items::from_vec(list),
         },
         shown: Items::from_vec(shown.to_vec(alloc)?),
+        under: Cube::from_vec(Vec::new(alloc)),
     })
 }
 

@@ -4,4 +4,5 @@ pub mod Inside
 pub mod Keys
 pub mod Machine
 pub mod Once
+pub mod Stamps
 pub mod Variables

@@ -3,11 +3,11 @@ use Rattle.std.specs.Prelude.{◌≡◌, ◌↔◌, ℕ, ◌<◌, Bool, true, Li
 use Rattle.std.specs.List.{list_any, list_all}
 use Rattle.std.specs.Cmp.{IsTotalOrder}
 use Rattle.std.specs.declared.cmp.Ordering.TheVariants.{Equal}
-use Rattle.sat_terms.specs.Assignments.{IsGood, lies_in}
+use Rattle.sat_terms.specs.Assignments.{lies_in}
 use Rattle.sat_terms.specs.Truth.{holds}
 use Rattle.sat_terms.specs.Cubes.{IsCube, apart, within}
 use Rattle.sat_terms.specs.CubeOrder.{cube_order}
-use Rattle.sat_terms.specs.RightList.{IsRightList}
+use Rattle.sat_terms.specs.RightList.{IsWanted, IsRightList}
 
 -- Two cubes are apart exactly if no projected assignment lies in both.
 abbrev pub ApartIsDisjoint : List ℕ → List ℤ → List ℤ → Type 0
@@ -31,13 +31,14 @@ pub record LiesOnlyAt (p : List ℕ) (a : List Bool) (cubes : List (List ℤ)) (
   pub lies : lies_in p a (slice_index_or cubes k []) ≡ true
   pub only : (j : ℕ) → j < length cubes → lies_in p a (slice_index_or cubes j []) ≡ true → j ≡ k
 
--- A right list holds each good assignment in exactly one cube.
-abbrev pub HoldsEachOnce : List (List ℤ) → List ℕ → List (List ℤ) → Type 0
-HoldsEachOnce f p cubes = IsRightList f p cubes → (a : List Bool) → length a ≡ length p →
-    IsGood f p a → (k : ℕ) × LiesOnlyAt p a cubes k
+-- A right list holds each wanted assignment in exactly one cube.
+abbrev pub HoldsEachOnce : List (List ℤ) → List ℕ → List ℤ → List (List ℤ) → Type 0
+HoldsEachOnce f p u cubes = IsRightList f p u cubes → (a : List Bool) → length a ≡ length p →
+    IsWanted f p u a → (k : ℕ) × LiesOnlyAt p a cubes k
 
--- Right lists of one formula hold the same assignments.
-abbrev pub HoldOneSet : List (List ℤ) → List ℕ → List (List ℤ) → List (List ℤ) → Type 0
-HoldOneSet f p cubes others = IsRightList f p cubes → IsRightList f p others →
+-- Right lists of one formula under the same given literals hold the same assignments.
+abbrev pub HoldOneSet :
+    List (List ℤ) → List ℕ → List ℤ → List (List ℤ) → List (List ℤ) → Type 0
+HoldOneSet f p u cubes others = IsRightList f p u cubes → IsRightList f p u others →
     (a : List Bool) → length a ≡ length p →
     list_any (lies_in p a) cubes ≡ list_any (lies_in p a) others

@@ -5,5 +5,6 @@ pub mod Laws
 pub mod Literals
 pub mod Refusals
 pub mod RightList
+pub mod Stamps
 pub mod Subjects
 pub mod Truth

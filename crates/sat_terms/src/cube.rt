@@ -1,6 +1,7 @@
 //! A cube: literals of shown variables, whose variables rise.
 ghost use Rattle.std.specs.Prelude.{◌≡◌, true, IfOk};
 ghost use Rattle.std.specs.List.{All};
+ghost use Rattle.std.specs.List.Sorted.{IsStrictlyIncreasing};
 ghost use Rattle.sat_terms.specs.Literals.{IsLiteral};
 ghost use Rattle.sat_terms.specs.Cubes.{is_among, rises_above};
 ghost use Rattle.sat_terms.specs.Refusals.{GivesCube, JudgesCube};
@@ -81,9 +82,9 @@ impl Cube {
     }
 }
 
-/// Whether a variable is one of these, by halves.
-fn is_shown(shown: &[u32], variable: u32) -> bool
-    requires { IsVariableList shown.now }
+/// Whether a variable is one of these, which rise. It is looked for by halves.
+pub fn is_shown(shown: &[u32], variable: u32) -> bool
+    requires { IsStrictlyIncreasing shown.now }
     ensures { result ≡ is_among shown.now variable }
 {
     shown.binary_search(&variable).is_ok()

@@ -18,13 +18,15 @@ pub fn cubes_are_ordered()
     ensures { OrdersCubes }
 {}
 
-/// A right list holds each good assignment in exactly one cube.
+/// A right list holds each wanted assignment in exactly one cube.
 pub fn right_lists_hold_each_once()
-    ensures { (f : List (List ℤ)) (p : List ℕ) (cubes : List (List ℤ)) → HoldsEachOnce f p cubes }
+    ensures { (f : List (List ℤ)) (p : List ℕ) (u : List ℤ) (cubes : List (List ℤ)) →
+        HoldsEachOnce f p u cubes }
 {}
 
-/// Two right lists of one formula and one list of shown variables hold the same assignments.
+/// Two right lists of one formula, one list of shown variables and the same given literals hold the
+/// same assignments.
 pub fn right_lists_hold_one_set()
-    ensures { (f : List (List ℤ)) (p : List ℕ) (cubes others : List (List ℤ)) →
-        HoldOneSet f p cubes others }
+    ensures { (f : List (List ℤ)) (p : List ℕ) (u : List ℤ) (cubes others : List (List ℤ)) →
+        HoldOneSet f p u cubes others }
 {}

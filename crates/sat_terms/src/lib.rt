@@ -10,14 +10,16 @@ mod cube_list;
 mod items;
 pub mod laws;
 mod literal;
+mod pairs;
 mod relations;
 mod subject;
 
 pub use clause::Clause;
-pub use cube::{Cube, CubeRefused};
+pub use cube::{Cube, CubeRefused, is_shown};
 pub use cube_list::CubeList;
 pub use items::Items;
 pub use literal::place_of;
+pub use pairs::PairFinder;
 pub use relations::{apart, compare, within};
 pub use subject::{Formula, Subject};
 

@@ -1,5 +1,7 @@
 //! What the contracts do not say: that the calls succeed, and the answers on worked examples.
-use crate::{Clause, Cube, CubeList, CubeRefused, Items, apart, compare, place_of, within};
+use crate::{
+    Clause, Cube, CubeList, CubeRefused, Items, PairFinder, apart, compare, place_of, within,
+};
 use std::cmp::Ordering;
 use std::test::Fail;
 
@@ -133,6 +135,17 @@ fn a_copy_has_the_literals_of_its_cube(rt: HostRuntime) -> Result<(), Fail> {
     let lits = [-1, 3].to_vec(rt.alloc())?;
     let cube = Cube::from_vec(lits);
     assert_eq!(rt; cube.copy(rt.alloc())?.lits(), [-1, 3].as_slice());
+    Ok(())
+}
+
+#[test]
+fn a_pair_is_of_one_clause(rt: HostRuntime) -> Result<(), Fail> {
+    let mut finder = PairFinder::make(rt.alloc(), 3)?;
+    assert!(rt; finder.has_pair(&[1, 2, -1]));
+    assert!(rt; !finder.has_pair(&[1, 2, 2]));
+    assert!(rt; !finder.has_pair(&[-1, -2]));
+    assert!(rt; finder.has_pair(&[3, -2, -3, 3]));
+    assert!(rt; !finder.has_pair(&[]));
     Ok(())
 }
 

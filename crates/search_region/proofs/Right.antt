@@ -1,5 +1,5 @@
 -- What a closed search of everything has found, sorted, is the right list.
-use Rattle.std.proofs.Common.{◌≡◌, ℕ, zero, suc, ◌+◌, ◌<◌, Bool, true, false, nat_eq, ℤ, nat_abs, List, [], ◌∷◌, map, length, get_or, refl, sym, ap, ap₂, subst, ◌∙◌, inl, inr, arith, All, AllPairs, IsPermutation, IsSorted, Ordering, Less, Equal, Greater, is_lt}
+use Rattle.std.proofs.Common.{◌≡◌, ℕ, zero, suc, ◌+◌, ◌<◌, Bool, true, false, cond, nat_eq, ℤ, nat_abs, List, [], ◌∷◌, map, length, get_or, refl, sym, ap, ap₂, subst, ◌∙◌, inl, inr, arith, All, AllPairs, IsPermutation, IsSorted, Ordering, Less, Equal, Greater, is_lt}
 use Rattle.std.specs.List.{list_any, AllAdjacentBelow}
 use Rattle.std.specs.List.Sorted.{IsStrictlyIncreasing}
 use Rattle.std.specs.Cmp.{IsTotalOrder}
@@ -12,13 +12,13 @@ use Rattle.sat_terms.specs.Truth.{holds}
 use Rattle.sat_terms.specs.Assignments.{assignment_of, lies_in, IsGood}
 use Rattle.sat_terms.specs.Cubes.{IsCube, is_among, rises_above, apart}
 use Rattle.sat_terms.specs.CubeOrder.{key, cube_order}
-use Rattle.sat_terms.specs.RightList.{IsRightList}
+use Rattle.sat_terms.specs.RightList.{IsWanted, IsRightList}
 use Rattle.sat_terms.proofs.Keys.{same_from_keys}
 use Rattle.sat_terms.proofs.CubeLemmas.{apart-skip_both, rises_above-head, rises_above-tail}
 use Rattle.sat_terms.proofs.Disjoint.{lies_in-map, assignment_of-map}
-use Rattle.search_region.specs.Cubes.{Good}
+use Rattle.search_region.specs.Cubes.{hit, Good}
 use Rattle.search_region.specs.Region.{Closed}
-use Rattle.search_region.proofs.Close.{closed_once}
+use Rattle.search_region.proofs.Close.{closed_once, closed_good, in_prefix}
 use Rattle.search_region.proofs.Counts.{any_hit, hit_any, hits_permuted, apart_from_counts}
 
 -- ---- good assignments, total and projected
@@ -91,7 +91,7 @@ rises_from_sorted cubes rising disjoint sorted k d inside =
 
 -- ---- the right list
 
-module _ (f : List (List ℤ)) (p : List ℕ) (found cubes : List (List ℤ)) (up : IsStrictlyIncreasing p) (done : Closed f (is_among p) [] found) (shape : All (IsCube p) found) (perm : IsPermutation found cubes) (sorted : IsSorted cube_order cubes) where
+module _ (f : List (List ℤ)) (p : List ℕ) (u : List ℤ) (found cubes : List (List ℤ)) (up : IsStrictlyIncreasing p) (given : IsCube p u) (done : Closed f (is_among p) u found) (shape : All (IsCube p) found) (perm : IsPermutation found cubes) (sorted : IsSorted cube_order cubes) where
   over : All (IsCube p) cubes
   over = All-permutation (IsCube p) found cubes perm shape
 
@@ -99,20 +99,27 @@ module _ (f : List (List ℤ)) (p : List ℕ) (found cubes : List (List ℤ)) (u
   rising k d inside = (over k d inside).rising
 
   disjoint : AllPairs (λ c d. apart c d ≡ true) cubes
-  disjoint = apart_from_counts cubes rising (λ t. let same = hits_permuted t found cubes perm in let few = closed_once f (is_among p) found done t in omega arith)
+  disjoint = apart_from_counts cubes rising (λ t. let same = hits_permuted t found cubes perm in let few = closed_once f (is_among p) u found done t in omega arith)
 
-  good_from_hit : (a : List Bool) → length a ≡ length p → list_any (lies_in p a) cubes ≡ true → IsGood f p a
-  good_from_hit a long h =
+  wanted_from_hit : (a : List Bool) → length a ≡ length p → list_any (lies_in p a) cubes ≡ true → IsWanted f p u a
+  wanted_from_hit a long h =
       let some = any_hit (assignment_of p a) cubes h in
       let same = hits_permuted (assignment_of p a) found cubes perm in
-      is_good_from_good f p a up long (done.good (assignment_of p a) (omega arith))
+      let g : Good f (is_among p) (assignment_of p a) = done.good (assignment_of p a) (omega arith) in
+      let one = closed_good f (is_among p) u found done (assignment_of p a) g in
+      record { given = in_prefix (assignment_of p a) u (omega arith); good = is_good_from_good f p a up long g }
 
-  hit_from_good : (a : List Bool) → IsGood f p a → list_any (lies_in p a) cubes ≡ true
-  hit_from_good a g =
+  hit_from_wanted : (a : List Bool) → IsWanted f p u a → list_any (lies_in p a) cubes ≡ true
+  hit_from_wanted a w =
+      let g = w.good in
       let same = hits_permuted g.model found cubes perm in
       let one = done.exact g.model g.meets in
+      let inside : hit g.model u ≡ 1 = ap (λ b. cond b 1 0) (sym (lies_in-map g.model p u given.over) ∙ ap (λ x. lies_in p x u) g.projects ∙ w.given) in
       in_cubes cubes over (hit_any g.model cubes (omega arith))
     where
+      g : IsGood f p a
+      g = w.good
+
       in_cubes : (cs : List (List ℤ)) → All (IsCube p) cs → list_any (holds g.model) cs ≡ true → list_any (lies_in p a) cs ≡ true
       in_cubes [] all h = h
       in_cubes (c ∷ cs) all h =
@@ -121,10 +128,10 @@ module _ (f : List (List ℤ)) (p : List ℕ) (found cubes : List (List ℤ)) (u
             | inr rest ↦ or_right (lies_in p a c) (list_any (lies_in p a) cs) (in_cubes cs (All-tail (IsCube p) c cs all) rest)
           ]
 
-  pub closed_is_right : IsRightList f p cubes
+  pub closed_is_right : IsRightList f p u cubes
   closed_is_right = record {
     over = over;
     rising = rises_from_sorted cubes rising disjoint sorted;
     disjoint = disjoint;
-    exact = λ a long. (good_from_hit a long, hit_from_good a);
+    exact = λ a long. (wanted_from_hit a long, hit_from_wanted a);
   }

@@ -85,18 +85,19 @@ MetCubeIsGood = (f : List (List ℤ)) (shown : ℕ → Bool) (b : ℕ) (trail : 
     Steady f shown trail → are_named f ≡ true → list_all (is_met shown b trail) f ≡ true →
     CubeOf shown b trail c → (t : ℕ → Bool) → holds t c ≡ true → Good f shown t
 
--- A closed search of everything found each good assignment in exactly one cube, and no other in
+-- A closed search of a prefix found each good assignment in it in exactly one cube, and no other in
 -- any.
 abbrev pub ClosedIsExact : Type 0
-ClosedIsExact = (f : List (List ℤ)) (shown : ℕ → Bool) (found : List (List ℤ)) →
-    Closed f shown [] found → (t : ℕ → Bool) →
-    (hits t found ≤ 1) × (Good f shown t ↔ (0 < hits t found))
+ClosedIsExact = (f : List (List ℤ)) (shown : ℕ → Bool) (p : List ℤ) (found : List (List ℤ)) →
+    Closed f shown p found → (t : ℕ → Bool) →
+    (hits t found ≤ 1) × ((Good f shown t × (holds t p ≡ true)) ↔ (0 < hits t found))
 
--- What a closed search of everything found is the right list, once it is sorted.
+-- What a closed search of the given literals found is the right list, once it is sorted.
 abbrev pub ClosedIsRight : Type 0
-ClosedIsRight = (f : List (List ℤ)) (p : List ℕ) (found cubes : List (List ℤ)) →
-    IsStrictlyIncreasing p → Closed f (is_among p) [] found → All (IsCube p) found →
-    IsPermutation found cubes → IsSorted cube_order cubes → IsRightList f p cubes
+ClosedIsRight = (f : List (List ℤ)) (p : List ℕ) (u : List ℤ) (found cubes : List (List ℤ)) →
+    IsStrictlyIncreasing p → IsCube p u → Closed f (is_among p) u found →
+    All (IsCube p) found → IsPermutation found cubes → IsSorted cube_order cubes →
+    IsRightList f p u cubes
 
 -- While the search runs, the cubes found, the prefixes untried and the present prefix are apart and
 -- hold every good assignment of p.

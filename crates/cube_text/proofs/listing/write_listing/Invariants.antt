@@ -1,6 +1,6 @@
 use Rattle.std.proofs.Common.{take, map}
 use Rattle.cube_text.specs.Buffered.{Wrote}
-use Rattle.cube_text.specs.Lines.{text_of}
+use Rattle.dimacs_tokens.specs.Texts.{text_of}
 use Rattle.cube_text.specs.Listing.{cube_line}
 use Rattle.cube_text.proofs.listing.write_listing.Given as goal
 

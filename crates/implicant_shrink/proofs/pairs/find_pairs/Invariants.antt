@@ -1,11 +1,9 @@
-use Rattle.std.proofs.Common.{◌≡◌, ◌+◌, ◌*◌, ◌≤◌, length, map, take}
-use Rattle.std.specs.List.{All}
+use Rattle.std.proofs.Common.{◌≡◌, map, take}
 use Rattle.sat_terms.specs.Cubes.{has_pair}
 use Rattle.implicant_shrink.proofs.pairs.find_pairs.Given as goal
 
 abbrev pub invariant-loop-id : goal.invariant-loop-id
 invariant-loop-id l = record {
   found : l.pairs.items ≡ map has_pair (take l.id l.arena.clauses);
-  stamped : All (λ s. s ≤ l.id) l.stamps.items;
-  wide : length l.stamps.items ≡ 2 * (l.variables + 1);
+  variables : l.finder ≡ l.variables;
 }

@@ -1,4 +1,4 @@
-use Rattle.std.proofs.Common.{ℕ, ◌<◌, ◌≤◌, List, length, All, arith, ℤ, subst}
+use Rattle.std.proofs.Common.{◌≡◌, ℕ, ◌<◌, ◌≤◌, List, [], ◌∷◌, length, All, refl, sym, ap, ◌∙◌, arith, rules, ℤ, subst}
 use Rattle.std.specs.List.Sorted.{IsStrictlyIncreasing}
 use Rattle.std.proofs.lemmas.List.Elements.{All-weaker}
 use Rattle.std.proofs.lemmas.List.Sums.{sum_by-le}
@@ -18,6 +18,10 @@ formula_from n f few short =
       named = All-weaker (IsShortClause n) (All (IsLiteralOf n)) (λ c h. h.named) f short.short;
     }
 
+nil : (xs : List ℤ) → length xs ≡ 0 → xs ≡ []
+nil [] e = refl
+nil (x ∷ xs) e = absurd (omega arith)
+
 pub returns : goal.returns
 returns c = λ h.
     let s = c.args.subject.now in
@@ -28,4 +32,5 @@ returns c = λ h.
         rising = subst IsStrictlyIncreasing c.as_slice-shown.ensures (c.is_rising.ensures c.if-not-is_rising.false);
         named = subst (All (λ v. (0 < v) × (v ≤ s.formula.variables))) c.as_slice-shown.ensures (c.are_variables_of.ensures c.if-not-are_variables_of.false);
       };
+      under = (let zero : length c.lits.result.now ≡ 0 = search rules in rw (nil s.under (ap length (sym c.lits.ensures.same) ∙ zero)) (record { rising = refl; over = refl }));
     }

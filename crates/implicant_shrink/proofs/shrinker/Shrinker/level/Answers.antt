@@ -14,7 +14,7 @@ use Rattle.implicant_shrink.specs.Levels.{marked, is_at_most, is_kept_at, is_met
 use Rattle.implicant_shrink.specs.Shrinking.{formula_of, may_try}
 use Rattle.implicant_shrink.proofs.Least.{least_more, met_pair, met_low, met_high, in_formula}
 use Rattle.implicant_shrink.proofs.Tried.{for_set, tried_small, tried_meets, pair_told, is_met_there}
-use Rattle.implicant_shrink.proofs.Literals.{literal_fits}
+use Rattle.sat_terms.proofs.Machine.{literal_fits}
 use Rattle.implicant_shrink.proofs.shrinker.Shrinker.level.Goals as goal
 use Rattle.implicant_shrink.proofs.shrinker.Shrinker.level.Goals.{then-met-level+then-not-index, else-met-level, else-met-level-via-then-met-level+else-not-index, else-met-level-via-else-met-level}
 

@@ -4,7 +4,7 @@ use Rattle.chrono_trail.specs.declared.item.Kind.TheVariants.{Assumed, Flipped}
 use Rattle.chrono_trail.specs.declared.item.Item.{Item}
 use Rattle.chrono_trail.specs.Items.{item_of}
 use Rattle.chrono_trail.proofs.Splits.{backtracking_frees}
-use Rattle.plain_search.proofs.Literals.{negated}
+use Rattle.sat_terms.proofs.Machine.{negated}
 use Rattle.plain_search.proofs.Moves.{decision_at}
 use Rattle.plain_search.proofs.search.Search.flip.Goals as goal
 

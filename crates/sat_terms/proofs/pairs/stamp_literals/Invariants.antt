@@ -1,7 +1,7 @@
 use Rattle.std.proofs.Common.{◌≤◌, take}
 use Rattle.std.specs.List.{All}
-use Rattle.plain_search.specs.Stamps.{AreStamped}
-use Rattle.plain_search.proofs.pairs.stamp_literals.Given as goal
+use Rattle.sat_terms.specs.Stamps.{AreStamped}
+use Rattle.sat_terms.proofs.pairs.stamp_literals.Given as goal
 
 abbrev pub invariant-loop-lit : goal.invariant-loop-lit
 invariant-loop-lit l = record {

@@ -1,9 +1,9 @@
--- Literals in the machine: their negations, and their stamps.
-use Rattle.std.proofs.Common.{◌≡◌, ◌<◌, ◌^◌, ℤ, pos, negsuc, neg_ℤ, nat_abs, ◌-ℤ◌, ap, subst, ◌∙◌, arith, ℕ, ◌+◌, ◌*◌, ◌≤◌, ◌||◌, nat_eq, List, length, take, set, get_or, sym, inl, inr, get_or-set_same, get_or-set_other, length-set}
+-- The stamps of literals.
+use Rattle.std.proofs.Common.{◌≡◌, ◌<◌, ◌^◌, ℤ, pos, neg_ℤ, nat_abs, ◌-ℤ◌, ap, ◌∙◌, arith, ℕ, ◌+◌, ◌*◌, ◌≤◌, ◌||◌, nat_eq, List, length, take, set, get_or, sym, inl, inr, get_or-set_same, get_or-set_other, length-set}
 use mir.Syntax.{w32}
-use mir.Val.{SFits, to_z, of_z}
-use Rattle.std.proofs.lemmas.Int.{ints, to_z-of_z}
+use mir.Val.{to_z, of_z}
 use Rattle.sat_terms.proofs.CubeLemmas.{nat_abs-neg}
+use Rattle.sat_terms.proofs.Machine.{negated}
 use Rattle.std.specs.Ordering.{int_eq}
 use Rattle.std.proofs.lemmas.Bool.{cases_Bool, eq-eqb, or_right, both_ways}
 use Rattle.std.proofs.lemmas.Bool.Decides.{Decides-int_eq}
@@ -12,17 +12,7 @@ use Rattle.std.proofs.Math.Bool.{or-false}
 use Rattle.sat_terms.proofs.Keys.{same_from_key, key-le}
 use Rattle.sat_terms.specs.CubeOrder.{key}
 use Rattle.sat_terms.specs.Cubes.{has_literal}
-use Rattle.implicant_shrink.specs.Stamps.{AreStamped}
-
-pub literal_fits : (l : ℤ) → nat_abs l < 2 ^ 31 → SFits w32 l
-literal_fits (pos n) few = record { sfits = few }
-literal_fits (negsuc n) few = record { sfits = omega arith }
-
-pub negation_fits : (l : ℤ) → nat_abs l < 2 ^ 31 → SFits w32 (pos 0 -ℤ l)
-negation_fits l small = let same : neg_ℤ l ≡ pos 0 -ℤ l = omega (arith, ints) in subst (SFits w32) same (literal_fits (neg_ℤ l) (omega (arith, nat_abs-neg l)))
-
-pub negated : (l : ℤ) → nat_abs l < 2 ^ 31 → to_z w32 (of_z w32 (pos 0 -ℤ to_z w32 (of_z w32 l))) ≡ neg_ℤ l
-negated l small = ap (λ z. to_z w32 (of_z w32 (pos 0 -ℤ z))) (to_z-of_z w32 l (literal_fits l small)) ∙ omega (arith, ints)
+use Rattle.sat_terms.specs.Stamps.{AreStamped}
 
 -- one more literal
 pub stamped_more : (stamps : List ℕ) (stamp : ℕ) (c : List ℤ) (i place : ℕ) → i < length c → place ≡ key (get_or c i (pos 0)) → place < length stamps → AreStamped stamps stamp (take i c) → AreStamped (set stamps place stamp) stamp (take (i + 1) c)

@@ -5,8 +5,9 @@ use Rattle.std.proofs.lemmas.Int.{to_z-of_z}
 use Rattle.std.proofs.lemmas.Bool.{eq-eqb, ne_eqb}
 use Rattle.std.proofs.lemmas.List.Folds.{list_any_at, list_any_more}
 use Rattle.sat_terms.specs.Cubes.{has_literal}
-use Rattle.implicant_shrink.proofs.Literals.{literal_fits, negation_fits, stamped_negation}
-use Rattle.implicant_shrink.proofs.pairs.has_pair.Goals as goal
+use Rattle.sat_terms.proofs.Machine.{literal_fits, negation_fits}
+use Rattle.sat_terms.proofs.Stamps.{stamped_negation}
+use Rattle.sat_terms.proofs.pairs.find_pair.Goals as goal
 
 pub overflow_sub-lit : goal.overflow_sub-lit
 overflow_sub-lit c =

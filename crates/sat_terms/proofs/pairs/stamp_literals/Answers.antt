@@ -5,8 +5,8 @@ use Rattle.std.proofs.lemmas.Int.{to_z-of_z}
 use Rattle.std.proofs.lemmas.List.Elements.{All-set}
 use Rattle.sat_terms.specs.CubeOrder.{key}
 use Rattle.sat_terms.proofs.Keys.{key-le}
-use Rattle.plain_search.proofs.Literals.{stamped_more}
-use Rattle.plain_search.proofs.pairs.stamp_literals.Goals as goal
+use Rattle.sat_terms.proofs.Stamps.{stamped_more}
+use Rattle.sat_terms.proofs.pairs.stamp_literals.Goals as goal
 
 pub loop-lit-preserved : goal.loop-lit-preserved
 loop-lit-preserved c =
