@@ -1,5 +1,6 @@
 //! The arena: the clauses of a formula, and after them the lemmas.
-ghost use Rattle.std.specs.Prelude.{◌≡◌, ◌-◌, ◌<◌, ◌≤◌, ◌++◌, true, [], ◌∷◌, length, map, take};
+ghost use Rattle.std.specs.Prelude.{◌≡◌, ◌+◌, ◌-◌, ◌<◌, ◌≤◌, ◌^◌, ◌++◌, true, [], ◌∷◌};
+ghost use Rattle.std.specs.Prelude.{length, map, take};
 ghost use Rattle.std.specs.Prelude.{slice_index_or, slice_index, slice_range, IfOk, IfErr};
 ghost use Rattle.std.specs.List.{All};
 ghost use Rattle.sat_terms.specs.Literals.{IsLiteral, IsLiteralOf};
@@ -154,6 +155,7 @@ impl Arena {
     /// How many clauses there are, lemmas among them.
     pub fn len(&self) -> u32
         ensures length { result ≡ length self.now.clauses }
+        ensures few { length self.now.clauses < 2 ^ 30 + 1000000 }
         ensures arena { IsArena self.now }
     {
         self.ends.len() as u32

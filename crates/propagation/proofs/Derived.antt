@@ -1,14 +1,14 @@
 -- What propagation derives, and what its end says of the closure.
-use Rattle.std.proofs.Common.{◌≡◌, true, false, ◌||◌, List, [], ◌∷◌, ◌++◌, get_or, ℤ, neg_ℤ, nat_abs, nat_eq, Option, Some, None, refl, sym, ap, ap₂, subst, ◌∙◌, inl, inr, append_assoc, append-nil}
+use Rattle.std.proofs.Common.{◌≡◌, true, false, ◌||◌, List, [], ◌∷◌, ◌++◌, get_or, ℤ, neg_ℤ, nat_abs, Option, Some, None, refl, sym, ap, subst, ◌∙◌, inl, inr, append_assoc, append-nil}
 use Rattle.std.specs.List.{All, Contains, list_all}
 use Rattle.std.specs.Ordering.{int_eq}
-use Rattle.std.proofs.lemmas.Bool.{both_ways, or_cases, or_left, or_right, cases_Bool, false_from_ne_true}
+use Rattle.std.proofs.lemmas.Bool.{both_ways, or_cases, cases_Bool, false_from_ne_true}
 use Rattle.std.proofs.lemmas.List.{get_or_default}
 use Rattle.std.proofs.lemmas.List.Folds.{list_any-append}
 use Rattle.std.proofs.lemmas.List.Elements.{Contains-get_or}
 use Rattle.sat_terms.specs.Cubes.{has_literal, has_pair}
 use Rattle.sat_terms.specs.Literals.{IsLiteral}
-use Rattle.sat_terms.proofs.CubeLemmas.{neg-neg, int_eq-true}
+use Rattle.sat_terms.proofs.CubeLemmas.{int_eq-true}
 use Rattle.search_region.proofs.Literals.{test_from_same, all_weaker}
 use Rattle.unit_closure.specs.Closure.{InClosure}
 use Rattle.unit_closure.proofs.Follows.{holds_units}
@@ -21,34 +21,7 @@ use Rattle.chrono_trail.proofs.Pairs.{pair_at_rest}
 use Rattle.propagation.specs.Steps.{IsImplied, AreImplied, AreAtRest}
 use Rattle.propagation.specs.Derived.{AreDerived, PropagationDerives, ConflictCloses, RestIsClosed, RestStaysOpen}
 use Rattle.propagation.proofs.Reasons.{distinct_front}
-
--- a literal is false where its negation is on the trail
-test_negated : (l x : ℤ) → int_eq (neg_ℤ l) x ≡ int_eq l (neg_ℤ x)
-test_negated l x =
-    elim (cases_Bool (int_eq l (neg_ℤ x))) [
-      | inl same ↦ test_from_same (neg_ℤ l) x (ap neg_ℤ (int_eq-true l (neg_ℤ x) same) ∙ neg-neg x) ∙ sym same
-      | inr other ↦
-          false_from_ne_true (int_eq (neg_ℤ l) x) (λ b. both_ways (int_eq l (neg_ℤ x)) other (test_from_same l (neg_ℤ x) (sym (neg-neg l) ∙ ap neg_ℤ (int_eq-true (neg_ℤ l) x b))))
-          ∙ sym other
-    ]
-
-true_negated : (items : List Item) (l : ℤ) → is_true items (neg_ℤ l) ≡ is_false items l
-true_negated [] l = refl
-true_negated (i ∷ later) l = ap₂ (λ a b. a || b) (test_negated l i.lit) (true_negated later l)
-
--- a literal that its variable's item has is on the trail
-true_from_item : (items : List Item) (l : ℤ) (i : Item) → item_of items (nat_abs l) ≡ Some i → l ≡ i.lit → is_true items l ≡ true
-true_from_item [] l i h same = cc
-true_from_item (j ∷ later) l i h same =
-    elim (cases_Bool (nat_eq (nat_abs l) (nat_abs j.lit))) [
-      | inl here ↦
-          let some : Some j ≡ Some i = rw here at h in
-          let equal : i ≡ j = cc in
-          or_left (int_eq l j.lit) (is_true later l) (test_from_same l j.lit (same ∙ ap (λ (x : Item). x.lit) equal))
-      | inr away ↦
-          let rest : item_of later (nat_abs l) ≡ Some i = rw away at h in
-          or_right (int_eq l j.lit) (is_true later l) (true_from_item later l i rest same)
-    ]
+use Rattle.propagation.proofs.Truths.{true_negated, true_from_item}
 
 -- a unit clause has no pair, and a false one has none either
 unit_is_plain : (items : List Item) (c : List ℤ) (l : ℤ) → are_distinct items ≡ true → All IsLiteral c → IsUnit items l c → has_pair c ≡ false

@@ -2,3 +2,13 @@ pub mod Steps
 pub mod Reasons
 pub mod Settled
 pub mod Derived
+pub mod Truths
+pub mod Watched
+pub mod Easing
+pub mod Visiting
+pub mod Lists
+pub mod Shorts
+pub mod Quiet
+pub mod Learning
+pub mod Seeing
+pub mod Ends

@@ -39,10 +39,6 @@ abbrev pub AreAtRest : List (List ℤ) → List Item → Type 0
 AreAtRest clauses items = (id : ℕ) → id < length clauses →
     IsAtRest items (slice_index_or clauses id [])
 
--- They are where nothing was added.
-abbrev pub IsAtRestIf : List (List ℤ) → List Item → List Item → Type 0
-IsAtRestIf clauses old new = new ≡ old → AreAtRest clauses new
-
 -- No clause is false, and none is unit where the current level is 0. Above it a clause may be unit:
 -- one that became so where levels were taken back.
 pub record IsQuiet (clauses : List (List ℤ)) (trail : TrailView) : Type 0 where

@@ -10,9 +10,16 @@
 
 pub mod laws;
 mod propagator;
+mod replacing;
+mod short;
+mod unseeing;
+mod values;
+mod walking;
 
 pub use propagator::{Propagated, Propagator};
 
+#[cfg(test)]
+mod random;
 #[cfg(test)]
 mod table;
 #[cfg(test)]

@@ -1,13 +1,16 @@
 //! The propagator.
 ghost use Rattle.std.specs.Prelude.{◌≡◌, ◌+◌, ◌<◌, ◌≤◌, ◌^◌, length, take};
-ghost use Rattle.std.specs.Prelude.{IfOk, IfErr, MatchOption};
+ghost use Rattle.std.specs.Prelude.{IfOk, IfErr};
 ghost use Rattle.std.specs.List.{All};
 ghost use Rattle.chrono_trail.specs.Trails.{IsTrail};
 ghost use Rattle.sat_terms.specs.Literals.{IsLiteralOf};
 ghost use Rattle.propagation.specs.Settled.{Watches, IsSettled};
-ghost use Rattle.propagation.specs.Steps.{Propagates, IsFalseOf, IsAtRestIf, CameTo};
+ghost use Rattle.propagation.specs.Steps.{Propagates, CameTo};
 
-use chrono_trail::{Kind, Scanned, Trail, level_of_rest, scan};
+use crate::short::{Short, take_up, unmark};
+use crate::unseeing::unsee;
+use crate::walking::follow;
+use chrono_trail::Trail;
 use clause_arena::Arena;
 use std::alloc::{AllocError, Global};
 use std::marker::Model;
@@ -27,14 +30,22 @@ pub struct Propagator {
     variables: u32,
     known: u32,
     places: u32,
+    watches: watch_lists::Watches,
 }
 
 impl Model for Propagator {
-    ghost use Rattle.propagation.specs.Settled.{PropagatorView};
+    ghost use Rattle.propagation.specs.Settled.{PropagatorView, HasPlaces};
 
     ghost Value = { PropagatorView };
 
-    ghost view = { λ p. record { variables = p.variables; known = p.known; places = p.places } };
+    ghost view = { λ p. record {
+      variables = p.variables;
+      known = p.known;
+      places = p.places;
+      lists = p.watches;
+    } };
+
+    ghost invariant = { λ p. HasPlaces p.variables p.places p.watches };
 }
 
 impl Propagator {
@@ -52,6 +63,7 @@ impl Propagator {
             variables,
             known,
             places: known,
+            watches: watch_lists::Watches::make(alloc, arena, variables)?,
         })
     }
 
@@ -75,6 +87,8 @@ impl Propagator {
         ensures trail_unchanged { IfErr result (λ _. trail.new ≡ trail.old) }
     {
         let known = arena.len();
+        self.watches.attach(arena, id)?;
+        unsee(trail, arena.lits(id));
         self.known = known;
         self.places = self.places.max(known);
         Ok(())
@@ -89,13 +103,15 @@ impl Propagator {
         ensures places { self.new.places ≡ self.old.places }
         ensures variables { self.new.variables ≡ self.old.variables }
     {
-        let count = arena.len();
-        self.known = count;
+        self.watches.rebuild(arena);
+        self.known = arena.len();
     }
 
     /// Appends what the clauses imply, until one is false or there is nothing more to do. How much
     /// it appends above level 0 no clause says. It takes no memory. The time is that of one walk
-    /// over all clauses for each literal that it appends, at most.
+    /// over the list of each literal that became false since the last call, with the clauses whose
+    /// other watched literal is not true; where no item is marked, also that of one look at each
+    /// clause's length.
     pub fn propagate(&mut self, arena: &Arena, trail: &mut Trail) -> Propagated
         requires variables { trail.old.variables ≡ self.old.variables }
         requires clauses { All (All (IsLiteralOf self.old.variables)) arena.now.clauses }
@@ -110,41 +126,15 @@ impl Propagator {
         ensures places { self.new.places ≡ self.old.places }
         ensures own_variables { self.new.variables ≡ self.old.variables }
     {
-        loop {
-            let before = trail.items().len();
-            if let Some(id) = pass(arena, trail) {
-                return Propagated::Conflict(id);
-            }
-            if trail.items().len() == before {
-                return Propagated::Quiet;
-            }
+        let short = take_up(arena, trail);
+        if let Short::Wrong(id) = short {
+            return Propagated::Conflict(id);
         }
-    }
-}
-
-/// Scans each clause once, and appends the literal of each unit one. The clause that it stops at is
-/// false.
-fn pass(arena: &Arena, trail: &mut Trail) -> Option<u32>
-    requires trail { IsTrail trail.old.variables trail.old.items trail.old.level }
-    requires clauses { All (All (IsLiteralOf trail.old.variables)) arena.now.clauses }
-    ensures steps { Propagates arena.now.clauses trail.old.items trail.new.items }
-    ensures outcome { MatchOption result
-        (IsAtRestIf arena.now.clauses trail.old.items trail.new.items)
-        (IsFalseOf arena.now.clauses trail.new.items) }
-    ensures trail { IsTrail trail.new.variables trail.new.items trail.new.level }
-    ensures level { trail.new.level ≡ trail.old.level }
-    ensures variables { trail.new.variables ≡ trail.old.variables }
-{
-    for id in 0..arena.len() {
-        let clause = arena.lits(id);
-        match scan(trail, clause) {
-            Scanned::False => return Some(id),
-            Scanned::Unit(lit) => {
-                let level = level_of_rest(trail, clause, lit);
-                trail.assign(lit, level, Kind::Implied(id));
-            }
-            Scanned::Neither => {}
+        let wrong = follow(&mut self.watches, arena, trail);
+        unmark(trail, short);
+        if let Some(id) = wrong {
+            return Propagated::Conflict(id);
         }
+        Propagated::Quiet
     }
-    None
 }

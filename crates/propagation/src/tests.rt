@@ -19,7 +19,7 @@ pub(crate) fn formula_of(
     first: &[i32],
     second: &[i32],
 ) -> Result<Formula, AllocError>
-    requires small { variables ≤ 4 }
+    requires small { variables ≤ 6 }
     requires first { All (IsLiteralOf variables) first.now }
     requires second { All (IsLiteralOf variables) second.now }
     requires few_first { length first.now ≤ 4 }

@@ -1,5 +1,5 @@
 -- What the moves make of the view.
-use Rattle.std.proofs.Common.{◌≡◌, ◌≢◌, ℕ, ◌+◌, ◌<◌, ◌≤◌, true, false, cond, nat_eq, List, [], ◌∷◌, ◌++◌, length, get_or, ℤ, pos, refl, sym, ap, subst, ◌∙◌, inl, inr, arith, ◌||◌, Option, Some, None}
+use Rattle.std.proofs.Common.{◌≡◌, ◌≢◌, ℕ, zero, suc, ◌+◌, ◌-◌, map, ◌<◌, ◌≤◌, true, false, cond, nat_eq, List, [], ◌∷◌, ◌++◌, length, get_or, ℤ, pos, refl, sym, ap, subst, ◌∙◌, inl, inr, arith, ◌||◌, Option, Some, None}
 use Rattle.std.specs.Prelude.{IfSome}
 use Rattle.std.proofs.lemmas.Bool.{cases_eq, cases_Bool, cases_lt, eq-eqb, ne_eqb}
 use Rattle.std.proofs.Common.{set, replicate, length-set, length-append}
@@ -10,7 +10,7 @@ use Rattle.watch_lists.specs.declared.nodes.Node.{Node}
 use Rattle.watch_lists.specs.declared.watch.Watch.{Watch}
 use Rattle.watch_lists.specs.Places.{has, AreApart, first_or, next_in, delete}
 use Rattle.watch_lists.specs.Nodes.{stop, idle, node_at, view_of, lists_of, list_at}
-use Rattle.watch_lists.specs.Views.{ListsView, list_of, lit_of, IsFree, IsPlaced, Stands, taken, pushed, moved, grown, watched, head_of, follower}
+use Rattle.watch_lists.specs.Views.{ListsView, list_of, lit_of, IsFree, IsPlaced, Stands, taken, pushed, moved, with_places, watched, head_of, follower}
 use Rattle.watch_lists.specs.Linked.{IsList, IsLinked}
 use Rattle.watch_lists.proofs.Places.{delete_gone, has_later}
 use Rattle.watch_lists.proofs.AllLists.{lists_are, linked_is, count_is, lit_is, no_end, same_view}
@@ -80,18 +80,27 @@ after_seen (x ∷ xs) n h out =
       | inr other ↦ rw (ne_eqb n x other) (after_seen xs n (has_later n x xs other h) (out_later stop x xs out))
     ]
 
--- two places more change no list
-pub record Grows (nodes more : List Node) (heads : List ℕ) : Type 0 where
+-- more places change no list
+pub record Grows (nodes more : List Node) (heads : List ℕ) (m : ℕ) : Type 0 where
   pub linked : IsLinked more heads
-  pub grown : view_of more heads ≡ grown (view_of nodes heads)
+  pub grown : view_of more heads ≡ with_places m (view_of nodes heads)
 
-grows : (nodes : List Node) (heads : List ℕ) → IsLinked nodes heads → length nodes + 2 ≤ stop →
-    Grows nodes (nodes ++ idle ∷ idle ∷ []) heads
-grows nodes heads linked room =
-    let more = nodes ++ idle ∷ idle ∷ [] in
-    let long = length-append nodes (idle ∷ idle ∷ []) in
+idle_lits : (k : ℕ) → map (λ (m : Node). m.lit) (replicate k idle) ≡ replicate k (pos 0)
+idle_lits zero = refl
+idle_lits (suc k) = ap (λ xs. pos 0 ∷ xs) (idle_lits k)
+
+grows : (nodes : List Node) (heads : List ℕ) (m : ℕ) → IsLinked nodes heads → m ≤ stop →
+    Grows nodes (nodes ++ replicate (m - length nodes) idle) heads m
+grows nodes heads m linked room =
+    let new = replicate (m - length nodes) idle in
+    let more = nodes ++ new in
+    let long = length-append nodes new in
+    let many = length-replicate (m - length nodes) idle in
+    let old_few = linked.few in
     let few : length more ≤ stop = omega arith in
     let ys : ℕ → List ℕ = list_at nodes heads in
+    let lits : map (λ (n : Node). n.lit) more ≡ map (λ (n : Node). n.lit) nodes ++ replicate (m - length (map (λ (n : Node). n.lit) nodes)) (pos 0) =
+    map-append (λ (n : Node). n.lit) nodes new ∙ ap (λ xs. map (λ (n : Node). n.lit) nodes ++ xs) (idle_lits (m - length nodes) ∙ ap (λ k. replicate (m - k) (pos 0)) (sym (length-map nodes (λ (n : Node). n.lit)))) in
     let fit : (k : ℕ) → IsList more (get_or heads k stop) k (ys k) = λ k.
     let old = linked.lists k in
     record {
@@ -99,7 +108,7 @@ grows nodes heads linked room =
       first = old.first;
       members = λ n h.
           let m = old.members n h in
-          let same : node_at more n ≡ node_at nodes n = get_or_append_left nodes (idle ∷ idle ∷ []) idle n m.inside in
+          let same : node_at more n ≡ node_at nodes n = get_or_append_left nodes new idle n m.inside in
           record {
             inside = omega (arith, m.inside);
             next = ap (λ x. x.next) same ∙ m.next;
@@ -109,16 +118,16 @@ grows nodes heads linked room =
     } in
     record {
       linked = linked_is more heads ys few fit;
-      grown = same_view (view_of more heads) (grown (view_of nodes heads))
+      grown = same_view (view_of more heads) (with_places m (view_of nodes heads))
           (count_is more heads ∙ sym (count_is nodes heads))
-          (ap (λ ts. length ts) (map-append (λ (m : Node). m.lit) nodes (idle ∷ idle ∷ [])))
+          (ap (λ ts. length ts) lits)
           (λ k inside. lists_are more heads ys few fit k)
-          (λ n inside. ap (λ ts. get_or ts n (pos 0)) (map-append (λ (m : Node). m.lit) nodes (idle ∷ idle ∷ [])));
+          (λ n inside. ap (λ ts. get_or ts n (pos 0)) lits);
     }
 
-pub grows_from : (nodes more : List Node) (heads : List ℕ) → IsLinked nodes heads → length nodes + 2 ≤ stop →
-    more ≡ nodes ++ idle ∷ idle ∷ [] → Grows nodes more heads
-grows_from nodes more heads linked room is = subst (λ ns. Grows nodes ns heads) (sym is) (grows nodes heads linked room)
+pub grows_from : (nodes more : List Node) (heads : List ℕ) (m : ℕ) → IsLinked nodes heads → m ≤ stop →
+    more ≡ nodes ++ replicate (m - length nodes) idle → Grows nodes more heads m
+grows_from nodes more heads m linked room is = subst (λ ns. Grows nodes ns heads m) (sym is) (grows nodes heads m linked room)
 
 -- lists without a place
 pub record Begins (nodes : List Node) (heads : List ℕ) (n : ℕ) : Type 0 where

@@ -1,16 +1,14 @@
 -- A walk over a list, from which watches move away.
-use Rattle.std.proofs.Common.{◌≡◌, ◌≢◌, ℕ, ◌+◌, ◌<◌, ◌≤◌, ◌||◌, Bool, true, false, cond, nat_eq, List, [], ◌∷◌, ◌++◌, length, map, set, get_or, ℤ, refl, sym, ap, subst, ◌∙◌, inl, inr, arith, get_or-set_other, Option, Some, None}
-use Rattle.std.proofs.lemmas.Bool.{cases_eq, eq-eqb, ne_eqb}
-use Rattle.std.proofs.lemmas.List.Folds.{list_any-append}
+use Rattle.std.proofs.Common.{◌≡◌, ◌≢◌, ℕ, false, List, [], ◌∷◌, ◌++◌, map, get_or, ℤ, refl, sym, ap, subst, ◌∙◌, arith, get_or-set_other}
+use Rattle.std.proofs.lemmas.Bool.{eq-eqb, ne_eqb}
 use Rattle.std.proofs.Math.ListN.{get_or-map}
 use Rattle.sat_terms.specs.CubeOrder.{key}
-use Rattle.watch_lists.specs.declared.watch.Watch.{Watch}
 use Rattle.watch_lists.specs.Places.{has, AreApart, delete}
-use Rattle.watch_lists.specs.Views.{ListsView, list_of, lit_of, IsPlaced, moved, head_of, follower}
+use Rattle.watch_lists.specs.Views.{ListsView, list_of, IsPlaced, moved, head_of, follower}
 use Rattle.watch_lists.specs.Watching.{WalksOn}
 
 -- a place behind others is none of them
-before_differ : (x n : ℕ) (xs later : List ℕ) → has x (xs ++ n ∷ later) ≡ false → n ≢ x
+pub before_differ : (x n : ℕ) (xs later : List ℕ) → has x (xs ++ n ∷ later) ≡ false → n ≢ x
 before_differ x n [] later out e = let now = eq-eqb x n (sym e) in grind arith
 before_differ x n (y ∷ ys) later out e =
     let rest : has x (ys ++ n ∷ later) ≡ false = grind arith in

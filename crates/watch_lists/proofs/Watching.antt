@@ -1,27 +1,24 @@
 -- Moves and attaching keep the clauses watched.
-use Rattle.std.proofs.Common.{◌≡◌, ◌≢◌, ℕ, ◌+◌, ◌-◌, ◌*◌, ◌/◌, ◌%◌, ◌<◌, ◌≤◌, ◌||◌, Bool, true, false, cond, nat_eq, List, [], ◌∷◌, ◌++◌, length, map, set, get_or, ℤ, pos, refl, sym, ap, ap₂, subst, ◌∙◌, inl, inr, arith, get_or-set_same, get_or-set_other, length-set, length-append}
-use Rattle.std.proofs.lemmas.Bool.{cases_eq, cases_lt, cases_Bool, eq-eqb, ne_eqb}
-use Rattle.std.proofs.lemmas.List.{length-map, get_or_append_left, get_or_push}
+use Rattle.std.proofs.Common.{◌≡◌, ◌≢◌, ℕ, ◌+◌, ◌-◌, ◌*◌, ◌/◌, ◌%◌, ◌<◌, ◌≤◌, ◌||◌, Bool, true, false, List, [], ◌∷◌, ◌++◌, length, replicate, set, get_or, ℤ, pos, refl, sym, ap, subst, ◌∙◌, inl, inr, arith, get_or-set_other, length-set, length-append}
+use Rattle.std.proofs.lemmas.Bool.{cases_eq, cases_lt, eq-eqb, ne_eqb}
+use Rattle.std.proofs.lemmas.List.{length-map, length-replicate, get_or-replicate, get_or_append_left, get_or-append_right, get_or_push}
 use Rattle.std.proofs.lemmas.Grind.{get_or-set_at}
 use Rattle.std.proofs.Math.ListN.{get_or-map, get_or-eq_default}
 use Rattle.std.specs.List.{All}
 use Rattle.sat_terms.specs.CubeOrder.{key}
 use Rattle.sat_terms.specs.Cubes.{has_literal}
 use Rattle.clause_arena.specs.Once.{HasEachOnce}
-use Rattle.watch_lists.specs.Places.{has, AreApart, delete}
-use Rattle.watch_lists.specs.Views.{ListsView, list_of, lit_of, Stands, IsFree, IsPlaced, taken, pushed, moved, grown, watched, partner}
-use Rattle.watch_lists.specs.Watching.{WatchesTwo, IsWatched, IsWatching}
+use Rattle.watch_lists.specs.Places.{has, delete}
+use Rattle.watch_lists.specs.Views.{ListsView, list_of, lit_of, Stands, IsFree, IsPlaced, taken, pushed, moved, with_places, watched, partner}
+use Rattle.watch_lists.specs.Watching.{IsWatched, IsWatching, attached}
 use Rattle.watch_lists.proofs.Places.{delete_has}
 use Rattle.watch_lists.proofs.OneList.{set_at}
-use Rattle.watch_lists.proofs.Seen.{watched_lits, free_beyond}
+use Rattle.watch_lists.proofs.Seen.{watched_lits}
 use Rattle.std.specs.Ordering.{int_eq}
 use Rattle.std.proofs.lemmas.Bool.Decides.{Decides-int_eq}
 
-nowhere : (v : ListsView) (n : ℕ) → IsFree v n → Stands v n → ⊥
+pub nowhere : (v : ListsView) (n : ℕ) → IsFree v n → Stands v n → ⊥
 nowhere v n free stands = let bad : true ≡ false = sym stands ∙ free (key (lit_of v n)) in grind arith
-
-free_at : (v : ListsView) (n k : ℕ) → IsPlaced v → length v.lits ≤ n → has n (list_of v k) ≡ false
-free_at v n k placed past = free_beyond v n placed past k
 
 has_one : (x : ℤ) (c : List ℤ) → has_literal (x ∷ c) x ≡ true
 has_one x c = ap (λ b. b || has_literal c x) ((Decides-int_eq x x).1 refl)
@@ -38,7 +35,7 @@ pub record Keeps (v w : ListsView) (m : ℕ) : Type 0 where
   pub lit : lit_of w m ≡ lit_of v m
   pub lists : (k : ℕ) → has m (list_of w k) ≡ has m (list_of v k)
 
-keeps_trans : (u v w : ListsView) (m : ℕ) → Keeps u v m → Keeps v w m → Keeps u w m
+pub keeps_trans : (u v w : ListsView) (m : ℕ) → Keeps u v m → Keeps v w m → Keeps u w m
 keeps_trans u v w m a b = record { lit = b.lit ∙ a.lit; lists = λ k. b.lists k ∙ a.lists k }
 
 pub pushed_keeps : (v : ListsView) (n m : ℕ) (l : ℤ) → m ≢ n → Keeps v (pushed v n l) m
@@ -66,7 +63,7 @@ taken_keeps v n m other = record {
 pub moved_keeps : (v : ListsView) (n m : ℕ) (l : ℤ) → m ≢ n → Keeps v (moved v n l) m
 moved_keeps v n m l other = keeps_trans v (taken v n) (moved v n l) m (taken_keeps v n m other) (pushed_keeps (taken v n) n m l other)
 
-stands_kept : (v w : ListsView) (m : ℕ) → Keeps v w m → Stands v m → Stands w m
+pub stands_kept : (v w : ListsView) (m : ℕ) → Keeps v w m → Stands v m → Stands w m
 stands_kept v w m k h = ap (λ l. has m (list_of w (key l))) k.lit ∙ k.lists (key (lit_of v m)) ∙ h
 
 watched_kept : (v w : ListsView) (p : ℕ) (c : List ℤ) → Keeps v w p → Keeps v w (p + 1) → IsWatched v p c → IsWatched w p c
@@ -81,7 +78,7 @@ watched_kept v w p (x ∷ y ∷ c) a b h = record {
 }
 
 -- the place that was put in
-lit_here : (v : ListsView) (n : ℕ) (l : ℤ) → n < length v.lits → lit_of (pushed v n l) n ≡ l
+pub lit_here : (v : ListsView) (n : ℕ) (l : ℤ) → n < length v.lits → lit_of (pushed v n l) n ≡ l
 lit_here v n l inside = get_or-set_at v.lits n n l (pos 0) refl inside
 
 stands_here : (v : ListsView) (n : ℕ) (l : ℤ) → n < length v.lits → key l < length v.lists → Stands (pushed v n l) n
@@ -90,10 +87,10 @@ stands_here v n l inside list =
     ∙ ap (λ xs. has n xs) (get_or-set_at v.lists (key l) (key l) (n ∷ list_of v (key l)) [] refl list)
     ∙ ap (λ b. b || has n (list_of v (key l))) (eq-eqb n n refl)
 
-partner_of_first : (id : ℕ) → partner (2 * id) ≡ 2 * id + 1
+pub partner_of_first : (id : ℕ) → partner (2 * id) ≡ 2 * id + 1
 partner_of_first id = let even : (2 * id) % 2 ≡ 0 = omega arith in rw (eq-eqb ((2 * id) % 2) 0 even) refl
 
-partner_of_second : (id : ℕ) → partner (2 * id + 1) ≡ 2 * id
+pub partner_of_second : (id : ℕ) → partner (2 * id + 1) ≡ 2 * id
 partner_of_second id =
     let odd : (2 * id + 1) % 2 ≢ 0 = omega arith in
     rw (ne_eqb ((2 * id + 1) % 2) 0 odd) (omega arith)
@@ -162,15 +159,35 @@ pub moves_keep : (v : ListsView) (clauses : List (List ℤ)) (n : ℕ) (l : ℤ)
     IsPlaced (moved v n l) → IsWatching (moved v n l) clauses
 moves_keep v clauses n l w stands list among other placed = record {
   placed = placed;
-  places = length-set v.lits n l ∙ w.places;
+  places = subst (λ m. 2 * length clauses ≤ m) (sym (length-set v.lits n l)) w.places;
   watched = clause_moved v clauses n l w stands list among other;
+  idle = λ m past k. (moved_keeps v n m l (λ same. nowhere v n (w.idle n (subst (λ j. 2 * length clauses ≤ j) same past)) stands)).lists k ∙ w.idle m past k;
 }
 
 -- one clause more
-grown_keeps : (v : ListsView) (m : ℕ) → m < length v.lits → Keeps v (grown v) m
-grown_keeps v m inside = record { lit = get_or_append_left v.lits (pos 0 ∷ pos 0 ∷ []) (pos 0) m inside; lists = λ k. refl }
+pub wider_keeps : (v : ListsView) (places m : ℕ) → Keeps v (with_places places v) m
+wider_keeps v places m = record {
+  lit = elim (cases_lt m (length v.lits)) [
+    | inl inside ↦ get_or_append_left v.lits (replicate (places - length v.lits) (pos 0)) (pos 0) m inside
+    | inr past ↦ get_or-append_right v.lits (replicate (places - length v.lits) (pos 0)) (length v.lits) m (pos 0) refl past
+        ∙ zeros (places - length v.lits) (m - length v.lits) ∙ sym (get_or-eq_default v.lits (pos 0) past)
+  ];
+  lists = λ k. refl;
+}
+  where
+    zeros : (k n : ℕ) → get_or (replicate k (pos 0)) n (pos 0) ≡ pos 0
+    zeros k n = elim (cases_lt n k) [
+      | inl inside ↦ get_or-replicate k n (pos 0) (pos 0) inside
+      | inr past ↦ get_or-eq_default (replicate k (pos 0)) (pos 0) (omega (arith, length-replicate k (pos 0)))
+    ]
 
-watched_keeps : (v : ListsView) (p m : ℕ) (c : List ℤ) → m ≢ p → m ≢ p + 1 → Keeps v (watched v p c) m
+pub wider_room : (v : ListsView) (places : ℕ) → (places ≤ length (with_places places v).lits) × (length v.lits ≤ length (with_places places v).lits)
+wider_room v places =
+    let long = length-append v.lits (replicate (places - length v.lits) (pos 0)) in
+    let many = length-replicate (places - length v.lits) (pos 0) in
+    (omega arith, omega arith)
+
+pub watched_keeps : (v : ListsView) (p m : ℕ) (c : List ℤ) → m ≢ p → m ≢ p + 1 → Keeps v (watched v p c) m
 watched_keeps v p m [] one two = record { lit = refl; lists = λ k. refl }
 watched_keeps v p m (x ∷ []) one two = record { lit = refl; lists = λ k. refl }
 watched_keeps v p m (x ∷ y ∷ c) one two =
@@ -200,38 +217,36 @@ new_watched v p (x ∷ y ∷ c) room free free' once listed =
     }
 
 pub attaching_keeps : (v : ListsView) (clauses : List (List ℤ)) (c : List ℤ) → IsWatching v clauses → HasEachOnce c →
-    All (λ l. key l < length v.lists) c → IsPlaced (watched (grown v) (2 * length clauses) c) →
-    IsWatching (watched (grown v) (2 * length clauses) c) (clauses ++ c ∷ [])
+    All (λ l. key l < length v.lists) c → IsPlaced (attached (length clauses) c v) →
+    IsWatching (attached (length clauses) c v) (clauses ++ c ∷ [])
 attaching_keeps v clauses c w once listed placed =
-    let n = length clauses in
-    let p = 2 * n in
+    let n : ℕ = length clauses in
+    let p : ℕ = 2 * n in
     let more = length-append clauses (c ∷ []) in
-    let u = watched (grown v) p c in
+    let wide : ListsView = with_places (p + 2) v in
+    let u : ListsView = watched wide p c in
+    let room = wider_room v (p + 2) in
+    let room_here = room.0 in
+    let past : (m : ℕ) → m ≢ p → m ≢ p + 1 → Keeps v u m = λ m one two. keeps_trans v wide u m (wider_keeps v (p + 2) m) (watched_keeps wide p m c one two) in
     record {
       placed = placed;
-      places = watched_lits (grown v) p c ∙ length-append v.lits (pos 0 ∷ pos 0 ∷ []) ∙ ap (λ m. m + 2) w.places ∙ sym (ap (λ m. 2 * m) more ∙ omega arith);
+      places = let same = watched_lits wide p c in omega arith;
       watched = λ id below. elim (cases_lt id n) [
         | inl old ↦
-            let one : 2 * id ≢ p = omega arith in
-            let one' : 2 * id ≢ p + 1 = omega arith in
-            let two : 2 * id + 1 ≢ p = omega arith in
-            let two' : 2 * id + 1 ≢ p + 1 = omega arith in
-            let places = w.places in
             subst (IsWatched u (2 * id)) (sym (get_or_append_left clauses (c ∷ []) [] id old))
-            (watched_kept v u (2 * id) (get_or clauses id [])
-            (keeps_trans v (grown v) u (2 * id) (grown_keeps v (2 * id) (omega arith)) (watched_keeps (grown v) p (2 * id) c one one'))
-            (keeps_trans v (grown v) u (2 * id + 1) (grown_keeps v (2 * id + 1) (omega arith)) (watched_keeps (grown v) p (2 * id + 1) c two two'))
-            (w.watched id old))
-        | inr past ↦
+            (watched_kept v u (2 * id) (get_or clauses id []) (past (2 * id) (omega arith) (omega arith)) (past (2 * id + 1) (omega arith) (omega arith)) (w.watched id old))
+        | inr late ↦
             let last : id ≡ n = omega arith in
             subst (λ i. IsWatched u (2 * i) (get_or (clauses ++ c ∷ []) i [])) (sym last)
-            (subst (IsWatched u p) (sym (get_or_push clauses c [] n refl)) (let places = w.places in let longer = length-append v.lits (pos 0 ∷ pos 0 ∷ []) in new_watched (grown v) p c (omega arith) (λ k. free_at v p k w.placed (omega arith)) (λ k. free_at v (p + 1) k w.placed (omega arith)) once listed))
+            (subst (IsWatched u p) (sym (get_or_push clauses c [] n refl))
+            (new_watched wide p c (omega arith) (w.idle p (omega arith)) (w.idle (p + 1) (omega arith)) once listed))
       ];
+      idle = λ m late k. (past m (omega arith) (omega arith)).lists k ∙ w.idle m (omega arith) k;
     }
 
 -- the clauses below `upto` are watched, and the places from there on in no list
 pub record IsUpto (v : ListsView) (clauses : List (List ℤ)) (upto : ℕ) : Type 0 where
-  pub places : length v.lits ≡ 2 * length clauses
+  pub places : 2 * length clauses ≤ length v.lits
   pub watched : (id : ℕ) → id < upto → IsWatched v (2 * id) (get_or clauses id [])
   pub free : (n : ℕ) → 2 * upto ≤ n → IsFree v n
 
@@ -240,7 +255,7 @@ pub upto_next : (v w : ListsView) (clauses : List (List ℤ)) (id : ℕ) (c : Li
     w ≡ watched v (2 * id) c → IsUpto w clauses (id + 1)
 upto_next v w clauses id c u below is once listed made =
     subst (λ x. IsUpto x clauses (id + 1)) (sym made) (record {
-      places = watched_lits v (2 * id) c ∙ u.places;
+      places = subst (λ m. 2 * length clauses ≤ m) (sym (watched_lits v (2 * id) c)) u.places;
       watched = λ j h. elim (cases_eq j id) [
         | inl same ↦
             let places = u.places in
@@ -262,4 +277,4 @@ upto_next v w clauses id c u below is once listed made =
     })
 
 pub upto_all : (v : ListsView) (clauses : List (List ℤ)) → IsPlaced v → IsUpto v clauses (length clauses) → IsWatching v clauses
-upto_all v clauses placed u = record { placed = placed; places = u.places; watched = u.watched }
+upto_all v clauses placed u = record { placed = placed; places = u.places; watched = u.watched; idle = u.free }

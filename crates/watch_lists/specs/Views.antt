@@ -1,5 +1,5 @@
 -- What contracts see of the lists, and what the moves make of it.
-use Rattle.std.specs.Prelude.{◌≡◌, ℕ, ◌+◌, ◌-◌, ◌%◌, ◌<◌, true, false, cond, nat_eq, List, [], ◌∷◌, ◌++◌, length, map, slice_set, slice_index_or, ℤ, pos, Option, Some, None}
+use Rattle.std.specs.Prelude.{◌≡◌, ℕ, ◌+◌, ◌-◌, ◌%◌, ◌<◌, true, false, cond, nat_eq, List, [], ◌∷◌, ◌++◌, length, map, replicate, slice_set, slice_index_or, ℤ, pos, Option, Some, None}
 use Rattle.sat_terms.specs.CubeOrder.{key}
 use Rattle.watch_lists.specs.declared.watch.Watch.{Watch}
 use Rattle.watch_lists.specs.Places.{has, AreApart, delete}
@@ -46,9 +46,9 @@ pushed v n l = record {
 abbrev pub moved : ListsView → ℕ → ℤ → ListsView
 moved v n l = pushed (taken v n) n l
 
--- Two places more, in no list.
-abbrev pub grown : ListsView → ListsView
-grown v = record v { lits = v.lits ++ pos 0 ∷ pos 0 ∷ [] }
+-- So many places at least. The new ones are in no list.
+abbrev pub with_places : ℕ → ListsView → ListsView
+with_places m v = record v { lits = v.lits ++ replicate (m - length v.lits) (pos 0) }
 
 -- Two places, from p on, watch the first two literals of a clause, if it has so many.
 abbrev pub watched : ListsView → ℕ → List ℤ → ListsView

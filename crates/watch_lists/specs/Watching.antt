@@ -1,11 +1,10 @@
 -- The watches of an arena's clauses.
-use Rattle.std.specs.Prelude.{◌≡◌, ◌≢◌, ℕ, ◌+◌, ◌*◌, ◌/◌, ◌<◌, Bool, true, List, [], ◌∷◌, ◌++◌, length, slice_index_or, ℤ}
+use Rattle.std.specs.Prelude.{◌≡◌, ◌≢◌, ℕ, ◌+◌, ◌*◌, ◌/◌, ◌<◌, ◌≤◌, true, List, [], ◌∷◌, ◌++◌, length, slice_index_or, ℤ}
 use Rattle.std.specs.List.{All}
 use Rattle.sat_terms.specs.CubeOrder.{key}
 use Rattle.sat_terms.specs.Cubes.{has_literal}
 use Rattle.clause_arena.specs.Once.{HasEachOnce}
-use Rattle.watch_lists.specs.Places.{delete}
-use Rattle.watch_lists.specs.Views.{ListsView, list_of, lit_of, Stands, IsFree, IsPlaced, moved, grown, watched, partner, head_of, follower}
+use Rattle.watch_lists.specs.Views.{ListsView, list_of, lit_of, Stands, IsFree, IsPlaced, moved, with_places, watched, partner, head_of, follower}
 
 -- The two places from p on watch two literals of a clause.
 pub record WatchesTwo (v : ListsView) (p : ℕ) (c : List ℤ) : Type 0 where
@@ -20,11 +19,12 @@ abbrev pub IsWatched : ListsView → ℕ → List ℤ → Type 0
 IsWatched v p (a ∷ b ∷ c) = WatchesTwo v p (a ∷ b ∷ c)
 IsWatched v p c = IsFree v p × IsFree v (p + 1)
 
--- Each clause is watched, and nothing else stands in a list.
+-- Each clause is watched, and nothing else stands in a list. There may be more places.
 pub record IsWatching (v : ListsView) (clauses : List (List ℤ)) : Type 0 where
   pub placed : IsPlaced v
-  pub places : length v.lits ≡ 2 * length clauses
+  pub places : 2 * length clauses ≤ length v.lits
   pub watched : (id : ℕ) → id < length clauses → IsWatched v (2 * id) (slice_index_or clauses id [])
+  pub idle : (n : ℕ) → 2 * length clauses ≤ n → IsFree v n
 
 -- The clauses are watched after a watch moved to a literal of its clause that the other one doesn't
 -- watch.
@@ -33,12 +33,15 @@ MovesKeepWatching v clauses n l = IsWatching v clauses → Stands v n → key l 
     has_literal (slice_index_or clauses (n / 2) []) l ≡ true → l ≢ lit_of v (partner n) →
     IsPlaced (moved v n l) → IsWatching (moved v n l) clauses
 
+-- The next clause on its two places, which are made where there are none.
+abbrev pub attached : ℕ → List ℤ → ListsView → ListsView
+attached id c v = watched (with_places (2 * id + 2) v) (2 * id) c
+
 -- One clause more is watched once it is attached.
 abbrev pub AttachingKeepsWatching : ListsView → List (List ℤ) → List ℤ → Type 0
 AttachingKeepsWatching v clauses c = IsWatching v clauses → HasEachOnce c →
-    All (λ l. key l < length v.lists) c →
-    IsPlaced (watched (grown v) (2 * length clauses) c) →
-    IsWatching (watched (grown v) (2 * length clauses) c) (clauses ++ c ∷ [])
+    All (λ l. key l < length v.lists) c → IsPlaced (attached (length clauses) c v) →
+    IsWatching (attached (length clauses) c v) (clauses ++ c ∷ [])
 
 -- A walk that stands at the place n of a list has the first of the later ones as its next, and they
 -- stay, in their order, where n moves to another list.

@@ -1,5 +1,5 @@
 //! The nodes of the lists: one for each place, with the places before and after it.
-ghost use Rattle.std.specs.Prelude.{◌≡◌, ◌+◌, ◌<◌, ◌≤◌, ◌++◌, ℕ, true, [], ◌∷◌, length, IfOk, IfErr};
+ghost use Rattle.std.specs.Prelude.{◌≡◌, ◌+◌, ◌-◌, ◌<◌, ◌≤◌, ◌++◌, length, replicate, IfOk, IfErr};
 ghost use Rattle.std.specs.List.{All};
 ghost use Rattle.sat_terms.specs.CubeOrder.{key};
 ghost use Rattle.watch_lists.specs.Nodes.{put_next, put_prev, put_head, stop, view_of, idle};
@@ -21,7 +21,7 @@ pub struct Node {
 }
 
 /// A node in no list.
-const IDLE: Node = Node {
+pub(crate) const IDLE: Node = Node {
     next: END,
     prev: END,
     lit: 0,
@@ -106,13 +106,14 @@ pub(crate) fn watch_first_two(nodes: &mut Vec<Node>, heads: &mut Vec<u32>, place
     }
 }
 
-/// Appends two places that are in no list. Without memory for them none is appended.
-pub(crate) fn grow(nodes: &mut Vec<Node>) -> Result<(), AllocError>
-    ensures grown { IfOk result (λ _. nodes.new.items ≡ nodes.old.items ++ idle ∷ idle ∷ []) }
+/// Appends places that are in no list, until there are so many. Without memory none is appended.
+pub(crate) fn grow(nodes: &mut Vec<Node>, places: usize) -> Result<(), AllocError>
+    ensures grown { IfOk result (λ _. nodes.new.items
+        ≡ nodes.old.items ++ replicate (places - length nodes.old.items) idle) }
     ensures unchanged { IfErr result (λ _. nodes.new.items ≡ nodes.old.items) }
 {
-    nodes.reserve(2)?;
-    nodes.push_reserved(IDLE);
-    nodes.push_reserved(IDLE);
+    if nodes.len() < places {
+        nodes.resize(places, IDLE)?;
+    }
     Ok(())
 }

@@ -3,7 +3,7 @@ ghost use Rattle.std.specs.Prelude.{◌≡◌, ◌+◌, ◌*◌, ◌<◌, ◌≤
 ghost use Rattle.std.specs.List.{All};
 ghost use Rattle.sat_terms.specs.Literals.{IsLiteralOf};
 ghost use Rattle.sat_terms.specs.Subjects.{IsFormula};
-ghost use Rattle.watch_lists.specs.Nodes.{stop};
+ghost use Rattle.watch_lists.specs.Watching.{IsWatching};
 
 use crate::{Watch, Watches};
 use clause_arena::Arena;
@@ -20,6 +20,7 @@ fn arena_of(alloc: Global, a: &[i32], b: &[i32], c: &[i32]) -> Result<Arena, All
     requires few_second { length b.now ≤ 4 }
     requires few_third { length c.now ≤ 4 }
     ensures count { IfOk result (λ arena. length arena.clauses ≡ 3) }
+    ensures base { IfOk result (λ arena. arena.base ≡ 3) }
     ensures literals { IfOk result (λ arena. All (All (IsLiteralOf 4)) arena.clauses) }
 {
     let mut clauses = Vec::new(alloc);
@@ -39,12 +40,9 @@ fn watches_of(alloc: Global, arena: &Arena) -> Result<Watches, AllocError>
     requires literals { All (All (IsLiteralOf 4)) arena.now.clauses }
     ensures lists { IfOk result (λ watches. length watches.lists ≡ 10) }
     ensures places { IfOk result (λ watches. length watches.lits ≡ 6) }
+    ensures watching { IfOk result (λ watches. IsWatching watches arena.now.clauses) }
 {
-    let mut watches = Watches::make(alloc, 4)?;
-    watches.attach(arena, 0)?;
-    watches.attach(arena, 1)?;
-    watches.attach(arena, 2)?;
-    Ok(watches)
+    Watches::make(alloc, arena, 4)
 }
 
 /// The places of the first three watches of a literal.
@@ -110,5 +108,37 @@ fn a_watch_knows_the_other_literal_of_its_clause(rt: HostRuntime) -> Result<(), 
     assert_eq!(rt; watches.other(Watch { place: 1 }), 1);
     assert_eq!(rt; watches.other(Watch { place: 4 }), -3);
     assert_eq!(rt; watches.other(Watch { place: 5 }), 3);
+    Ok(())
+}
+
+/// Adds a lemma of three literals to the arena, and watches it.
+fn learn(arena: &mut Arena, watches: &mut Watches) -> Result<(), AllocError>
+    requires count { length arena.old.clauses ≡ 3 }
+    requires base { arena.old.base ≡ 3 }
+    requires watching { IsWatching watches.old arena.old.clauses }
+    requires lists { length watches.old.lists ≡ 10 }
+    ensures lists { length watches.new.lists ≡ 10 }
+    ensures places { IfOk result (λ _. 6 ≤ length watches.new.lits) }
+{
+    let id = arena.add(&[3, 2, 4])?;
+    watches.attach(arena, id)
+}
+
+#[test]
+fn a_lemma_is_watched_and_goes_with_a_rebuild(rt: HostRuntime) -> Result<(), Fail> {
+    let formula = arena_of(rt.alloc(), &[1, 2, 3], &[-4], &[2, -1])?;
+    let mut arena = arena_of(rt.alloc(), &[1, 2, 3], &[-4], &[2, -1])?;
+    let mut watches = watches_of(rt.alloc(), &arena)?;
+    learn(&mut arena, &mut watches)?;
+    assert_eq!(rt; walk(&watches, 3), [6, 9, 9]);
+    assert_eq!(rt; walk(&watches, 2), [7, 4, 1]);
+    if let Some(first) = watches.first(2) {
+        watches.move_watch(first, 4);
+    }
+    assert_eq!(rt; walk(&watches, 4), [7, 9, 9]);
+    watches.rebuild(&formula);
+    assert_eq!(rt; walk(&watches, 2), [4, 1, 9]);
+    assert_eq!(rt; walk(&watches, 3), [9, 9, 9]);
+    assert_eq!(rt; walk(&watches, 4), [9, 9, 9]);
     Ok(())
 }

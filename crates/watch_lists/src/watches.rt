@@ -1,15 +1,16 @@
 //! The watches of an arena's clauses.
-ghost use Rattle.std.specs.Prelude.{◌≡◌, ◌+◌, ◌*◌, ◌<◌, ◌≤◌, ◌^◌, ℕ, [], length, slice_index_or, IfOk, IfErr, IfSome};
-ghost use Rattle.std.specs.Prelude.{cond, nat_eq, replicate, Some, None};
+ghost use Rattle.std.specs.Prelude.{◌≡◌, ◌+◌, ◌*◌, ◌<◌, ◌≤◌, ◌^◌, ℕ, [], length, take};
+ghost use Rattle.std.specs.Prelude.{cond, nat_eq, slice_index_or, Some, None, IfOk, IfErr, IfSome};
 ghost use Rattle.std.specs.List.{All};
 ghost use Rattle.sat_terms.specs.CubeOrder.{key};
+ghost use Rattle.sat_terms.specs.Literals.{IsLiteralOf};
 ghost use Rattle.watch_lists.specs.Linked.{IsLinked};
 ghost use Rattle.watch_lists.specs.Nodes.{stop, view_of};
-ghost use Rattle.watch_lists.specs.Views.{IsPlaced, IsFree, Stands, list_of, lit_of, moved, grown, watched};
+ghost use Rattle.watch_lists.specs.Views.{IsPlaced, IsFree, Stands, list_of, lit_of, moved};
 ghost use Rattle.watch_lists.specs.Views.{partner, head_of, follower};
-ghost use Rattle.watch_lists.specs.Watching.{IsWatching};
+ghost use Rattle.watch_lists.specs.Watching.{IsWatching, attached};
 
-use crate::nodes::{END, Node, grow, push_front, unlink, watch_first_two};
+use crate::nodes::{END, IDLE, Node, grow, push_front, unlink, watch_first_two};
 use crate::watch::Watch;
 use clause_arena::Arena;
 use sat_terms::place_of;
@@ -48,27 +49,15 @@ fn watch_at(place: u32) -> Option<Watch>
     }
 }
 
-/// Empties each list, and keeps so many places, none of them in a list.
-fn empty(nodes: &mut Vec<Node>, heads: &mut Vec<u32>, places: usize)
-    requires few { length nodes.old.items ≤ stop }
-    requires inside { places ≤ length nodes.old.items }
-    ensures linked { IsLinked nodes.new.items heads.new.items }
-    ensures free { (n : ℕ) → IsFree (view_of nodes.new.items heads.new.items) n }
-    ensures places { length nodes.new.items ≡ places }
-    ensures count { length heads.new.items ≡ length heads.old.items }
-{
-    nodes.truncate(places);
-    heads.fill(END);
-}
-
 /// Watches the first two literals of each clause.
 fn watch_all(nodes: &mut Vec<Node>, heads: &mut Vec<u32>, arena: &Arena)
     requires linked { IsLinked nodes.old.items heads.old.items }
-    requires places { length nodes.old.items ≡ 2 * length arena.now.clauses }
+    requires places { 2 * length arena.now.clauses ≤ length nodes.old.items }
     requires free { (n : ℕ) → IsFree (view_of nodes.old.items heads.old.items) n }
     requires listed { All (All (λ l. key l < length heads.old.items)) arena.now.clauses }
     ensures linked { IsLinked nodes.new.items heads.new.items }
     ensures watching { IsWatching (view_of nodes.new.items heads.new.items) arena.now.clauses }
+    ensures places { length nodes.new.items ≡ length nodes.old.items }
     ensures count { length heads.new.items ≡ length heads.old.items }
 {
     for id in 0..arena.len() {
@@ -77,49 +66,53 @@ fn watch_all(nodes: &mut Vec<Node>, heads: &mut Vec<u32>, arena: &Arena)
 }
 
 impl Watches {
-    /// Empty lists for the literals of the variables up to this one.
-    pub fn make(alloc: Global, variables: u32) -> Result<Watches, AllocError>
-        requires { variables < 2 ^ 31 }
-        ensures lits { IfOk result (λ watches. watches.lits ≡ []) }
-        ensures lists { IfOk result
-            (λ watches. watches.lists ≡ replicate (2 * (variables + 1)) []) }
+    /// Watches the first two literals of each clause of an arena over the variables 1 to
+    /// `variables`. The time is that of one walk over the clauses and the lists.
+    pub fn make(alloc: Global, arena: &Arena, variables: u32) -> Result<Watches, AllocError>
+        requires small { variables < 2 ^ 31 }
+        requires clauses { All (All (IsLiteralOf variables)) arena.now.clauses }
+        ensures watching { IfOk result (λ watches. IsWatching watches arena.now.clauses) }
+        ensures places { IfOk result
+            (λ watches. length watches.lits ≡ 2 * length arena.now.clauses) }
+        ensures lists { IfOk result (λ watches. length watches.lists ≡ 2 * (variables + 1)) }
     {
-        let lists = 2 * (variables as usize + 1);
-        Ok(Watches {
-            nodes: Vec::new(alloc),
-            heads: vec![in alloc; END; lists]?,
-        })
+        let mut nodes = vec![in alloc; IDLE; 2 * arena.len() as usize]?;
+        let mut heads = vec![in alloc; END; 2 * (variables as usize + 1)]?;
+        watch_all(&mut nodes, &mut heads, arena);
+        Ok(Watches { nodes, heads })
     }
 
     /// Watches the first two literals of the next clause. A clause of no or one literal is put in
     /// no list; only its places are made. Without memory for them the lists stay as they are.
     pub fn attach(&mut self, arena: &Arena, id: u32) -> Result<(), AllocError>
         requires known { id < length arena.now.clauses }
-        requires next { length self.old.lits ≡ 2 * id }
+        requires watching { IsWatching self.old (take id arena.now.clauses) }
         requires few { 2 * id + 2 ≤ stop }
         requires listed { All (λ l. key l < length self.old.lists)
             (slice_index_or arena.now.clauses id []) }
-        ensures attached { IfOk result (λ _. self.new
-            ≡ watched (grown self.old) (2 * id) (slice_index_or arena.now.clauses id [])) }
-        ensures places { IfOk result (λ _. length self.new.lits ≡ 2 * id + 2) }
+        ensures attached { IfOk result
+            (λ _. self.new ≡ attached id (slice_index_or arena.now.clauses id []) self.old) }
+        ensures watching { IfOk result (λ _. IsWatching self.new (take (id + 1) arena.now.clauses)) }
+        ensures places { length self.old.lits ≤ length self.new.lits }
         ensures lists { length self.new.lists ≡ length self.old.lists }
         ensures unchanged { IfErr result (λ _. self.new ≡ self.old) }
     {
-        grow(&mut self.nodes)?;
+        grow(&mut self.nodes, 2 * id as usize + 2)?;
         watch_first_two(&mut self.nodes, &mut self.heads, 2 * id, arena.lits(id));
         Ok(())
     }
 
     /// Watches the first two literals of each clause anew, as is needed once clauses were dropped
-    /// and the ids of others changed. It takes no memory. The time is that of one walk over the
-    /// clauses and the lists.
+    /// and the ids of others changed. It takes no memory, and keeps all places. The time is that of
+    /// one walk over the clauses and the lists.
     pub fn rebuild(&mut self, arena: &Arena)
         requires places { 2 * length arena.now.clauses ≤ length self.old.lits }
         requires listed { All (All (λ l. key l < length self.old.lists)) arena.now.clauses }
         ensures watching { IsWatching self.new arena.now.clauses }
+        ensures places { length self.new.lits ≡ length self.old.lits }
         ensures lists { length self.new.lists ≡ length self.old.lists }
     {
-        empty(&mut self.nodes, &mut self.heads, 2 * arena.len() as usize);
+        self.heads.fill(END);
         watch_all(&mut self.nodes, &mut self.heads, arena);
     }
 

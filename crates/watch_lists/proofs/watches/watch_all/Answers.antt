@@ -1,4 +1,4 @@
-use Rattle.std.proofs.Common.{◌≡◌, ◌+◌, ◌*◌, ◌<◌, ◌≤◌, ap, sym, subst, ◌∙◌, length, get_or, [], refl, arith, rules}
+use Rattle.std.proofs.Common.{◌≡◌, ◌+◌, ◌*◌, ◌<◌, ◌≤◌, ap, sym, subst, ◌∙◌, length, [], refl, arith}
 use Rattle.std.specs.List.{All}
 use Rattle.std.proofs.lemmas.List.{length-map}
 use Rattle.sat_terms.specs.CubeOrder.{key}
@@ -6,7 +6,7 @@ use Rattle.watch_lists.specs.declared.nodes.Node.{Node}
 use Rattle.watch_lists.specs.Nodes.{view_of}
 use Rattle.watch_lists.specs.Views.{ListsView}
 use Rattle.watch_lists.proofs.AllLists.{count_is}
-use Rattle.watch_lists.proofs.Seen.{placed_is, watched_lists}
+use Rattle.watch_lists.proofs.Seen.{placed_is, watched_lits, watched_lists}
 use Rattle.watch_lists.proofs.Watching.{IsUpto, upto_next, upto_all}
 use Rattle.watch_lists.proofs.watches.watch_all.Goals as goal
 
@@ -31,9 +31,10 @@ watch_first_two-requires-clause-second c = c.loop-id.invariant.upto.free (2 * c.
 pub loop-id-init : goal.loop-id-init
 loop-id-init c = record {
   linked = c.requires.linked;
+  long = refl;
   count = refl;
   upto = record {
-    places = length-map c.args.nodes.now.items (λ (m : Node). m.lit) ∙ c.requires.places;
+    places = subst (λ n. 2 * length c.args.arena.now.clauses ≤ n) (sym (length-map c.args.nodes.now.items (λ (m : Node). m.lit))) c.requires.places;
     watched = λ id h. absurd (omega arith);
     free = λ n h. c.requires.free n;
   };
@@ -55,6 +56,8 @@ loop-id-preserved c =
     (subst (All (λ l. key l < length c.args.heads.now.items)) (sym c.lits.ensures.clause) (c.requires.listed id [] below)) in
     record {
       linked = c.watch_first_two.ensures.linked;
+      long = sym (length-map nodes' (λ (m : Node). m.lit)) ∙ ap (λ (w : ListsView). length w.lits) c.watch_first_two.ensures.watched
+          ∙ watched_lits v (2 * id) lits ∙ length-map nodes (λ (m : Node). m.lit) ∙ c.loop-id.invariant.long;
       count = sym (count_is nodes' heads') ∙ ap (λ (w : ListsView). length w.lists) c.watch_first_two.ensures.watched
           ∙ watched_lists v (2 * id) lits ∙ count;
       upto = upto_next v (view_of nodes' heads') c.args.arena.now.clauses id lits c.loop-id.invariant.upto below

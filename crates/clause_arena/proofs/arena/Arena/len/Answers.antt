@@ -1,4 +1,4 @@
-use Rattle.std.proofs.Common.{sym, ap, subst, ◌∙◌, length}
+use Rattle.std.proofs.Common.{sym, ap, subst, ◌∙◌, length, arith}
 use Rattle.clause_arena.specs.Clauses.{Clauses, IsArena}
 use Rattle.clause_arena.proofs.Pieces.{length-pieces}
 use Rattle.clause_arena.proofs.arena.Arena.len.Goals as goal
@@ -10,3 +10,11 @@ returns-clause-length c =
 
 pub returns-clause-arena : goal.returns-clause-arena
 returns-clause-arena c = subst IsArena c.self.view_is c.self.invariant.arena
+
+pub returns-clause-few : goal.returns-clause-few
+returns-clause-few c =
+    let many = length-pieces c.self.inside.lits.items 0 c.self.inside.ends.items in
+    let same = ap (λ (v : Clauses). length v.clauses) c.self.view_is in
+    let base = c.self.invariant.clauses in
+    let lemmas = c.self.invariant.lemmas in
+    omega arith

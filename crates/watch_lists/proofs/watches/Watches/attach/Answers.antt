@@ -1,25 +1,37 @@
-use Rattle.std.proofs.Common.{◌≡◌, ◌+◌, ◌*◌, ◌<◌, ap, sym, subst, ◌∙◌, length, get_or, [], ◌∷◌, length-append, arith}
-use Rattle.std.specs.Prelude.{pos}
+use Rattle.std.proofs.Common.{◌≡◌, ◌+◌, ◌*◌, ◌<◌, ◌≤◌, ℕ, ap, sym, subst, ◌∙◌, length, take, get_or, [], ◌∷◌, ◌++◌, arith}
 use Rattle.std.specs.List.{All}
-use Rattle.std.proofs.lemmas.List.{length-map}
+use Rattle.std.proofs.lemmas.List.{length-map, length-take}
+use Rattle.std.proofs.lemmas.Grind.{take_at_read}
 use Rattle.sat_terms.specs.CubeOrder.{key}
+use Rattle.clause_arena.specs.Once.{HasEachOnce}
 use Rattle.watch_lists.specs.declared.nodes.Node.{Node}
 use Rattle.watch_lists.specs.Nodes.{view_of}
-use Rattle.watch_lists.specs.Views.{ListsView, IsFree, watched, grown}
+use Rattle.watch_lists.specs.Views.{ListsView, IsFree, IsPlaced, watched, with_places}
+use Rattle.watch_lists.specs.Watching.{IsWatching, attached}
 use Rattle.watch_lists.proofs.AllLists.{count_is}
-use Rattle.watch_lists.proofs.Seen.{Grows, grows_from, placed_is, free_beyond, watched_lits, watched_lists}
+use Rattle.watch_lists.proofs.Seen.{Grows, grows_from, placed_is, watched_lits, watched_lists}
+use Rattle.watch_lists.proofs.Watching.{attaching_keeps, wider_room}
 use Rattle.watch_lists.proofs.watches.Watches.attach.Goals as goal
 
-grows_it : (c : goal.After-lits) → Grows c.self.inside.nodes.items c.grow.new.nodes.items c.self.inside.heads.items
-grows_it c =
-    let same = ap (λ (v : ListsView). length v.lits) c.self.view_is in
-    let long = length-map c.self.inside.nodes.items (λ (m : Node). m.lit) in
-    let next = c.requires.next in
-    let few = c.requires.few in
-    grows_from c.self.inside.nodes.items c.grow.new.nodes.items c.self.inside.heads.items c.self.invariant (omega arith) c.in_ok-grow.ensures.grown
+grows_it : (c : goal.After-lits) → Grows c.self.inside.nodes.items c.grow.new.nodes.items c.self.inside.heads.items (2 * c.args.id + 2)
+grows_it c = grows_from c.self.inside.nodes.items c.grow.new.nodes.items c.self.inside.heads.items (2 * c.args.id + 2) c.self.invariant c.requires.few c.in_ok-grow.ensures.grown
+
+-- the front of the clauses is as long as the id
+front_long : (c : goal.After-lits) → length (take c.args.id c.args.arena.now.clauses) ≡ c.args.id
+front_long c = let known = c.requires.known in let taken = length-take c.args.id c.args.arena.now.clauses in omega arith
+
+wide_is : (c : goal.After-lits) → view_of c.grow.new.nodes.items c.self.inside.heads.items ≡ with_places (2 * c.args.id + 2) c.args.self.now
+wide_is c = (grows_it c).grown ∙ ap (with_places (2 * c.args.id + 2)) c.self.view_is
 
 pub watch_first_two-requires-clause-linked : goal.watch_first_two-requires-clause-linked
 watch_first_two-requires-clause-linked c = (grows_it c).linked
+
+pub watch_first_two-requires-clause-inside : goal.watch_first_two-requires-clause-inside
+watch_first_two-requires-clause-inside c =
+    let long = length-map c.grow.new.nodes.items (λ (m : Node). m.lit) in
+    let same = ap (λ (v : ListsView). length v.lits) (wide_is c) in
+    let room = (wider_room c.args.self.now (2 * c.args.id + 2)).0 in
+    omega arith
 
 pub watch_first_two-requires-clause-listed : goal.watch_first_two-requires-clause-listed
 watch_first_two-requires-clause-listed c =
@@ -29,44 +41,47 @@ watch_first_two-requires-clause-listed c =
 
 pub watch_first_two-requires-clause-first : goal.watch_first_two-requires-clause-first
 watch_first_two-requires-clause-first c =
-    let nodes = c.self.inside.nodes.items in
-    let heads = c.self.inside.heads.items in
-    let same = ap (λ (v : ListsView). length v.lits) c.self.view_is in
-    let next = c.requires.next in
-    subst (λ v. IsFree v (2 * c.args.id)) (sym (grows_it c).grown)
-    (free_beyond (view_of nodes heads) (2 * c.args.id) (placed_is nodes heads c.self.invariant) (omega arith))
+    let long = front_long c in
+    subst (λ v. IsFree v (2 * c.args.id)) (sym (wide_is c)) (c.requires.watching.idle (2 * c.args.id) (omega arith))
 
 pub watch_first_two-requires-clause-second : goal.watch_first_two-requires-clause-second
 watch_first_two-requires-clause-second c =
-    let nodes = c.self.inside.nodes.items in
-    let heads = c.self.inside.heads.items in
-    let same = ap (λ (v : ListsView). length v.lits) c.self.view_is in
-    let next = c.requires.next in
-    subst (λ v. IsFree v (2 * c.args.id + 1)) (sym (grows_it c).grown)
-    (free_beyond (view_of nodes heads) (2 * c.args.id + 1) (placed_is nodes heads c.self.invariant) (omega arith))
+    let long = front_long c in
+    subst (λ v. IsFree v (2 * c.args.id + 1)) (sym (wide_is c)) (c.requires.watching.idle (2 * c.args.id + 1) (omega arith))
 
-attached_it : (c : goal.After-watch_first_two) → view_of c.watch_first_two.new.nodes.items c.watch_first_two.new.heads.items ≡ watched (grown c.args.self.now) (2 * c.args.id) (get_or c.args.arena.now.clauses c.args.id [])
+attached_it : (c : goal.After-watch_first_two) → view_of c.watch_first_two.new.nodes.items c.watch_first_two.new.heads.items ≡ attached c.args.id (get_or c.args.arena.now.clauses c.args.id []) c.args.self.now
 attached_it c =
-    let same = ap (λ (v : ListsView). length v.lits) c.self.view_is in
-    let long = length-map c.self.inside.nodes.items (λ (m : Node). m.lit) in
-    let next = c.requires.next in
-    let few = c.requires.few in
-    let g = grows_from c.self.inside.nodes.items c.grow.new.nodes.items c.self.inside.heads.items c.self.invariant (omega arith) c.in_ok-grow.ensures.grown in
+    let g = grows_from c.self.inside.nodes.items c.grow.new.nodes.items c.self.inside.heads.items (2 * c.args.id + 2) c.self.invariant c.requires.few c.in_ok-grow.ensures.grown in
     c.watch_first_two.ensures.watched
-    ∙ ap (λ v. watched v (2 * c.args.id) c.lits.result.now) (g.grown ∙ ap grown c.self.view_is)
-    ∙ ap (λ xs. watched (grown c.args.self.now) (2 * c.args.id) xs) c.lits.ensures.clause
+    ∙ ap (λ v. watched v (2 * c.args.id) c.lits.result.now) (g.grown ∙ ap (with_places (2 * c.args.id + 2)) c.self.view_is)
+    ∙ ap (λ xs. watched (with_places (2 * c.args.id + 2) c.args.self.now) (2 * c.args.id) xs) c.lits.ensures.clause
 
 pub returns-clause-attached : goal.returns-clause-attached
 returns-clause-attached c = attached_it c
 
+pub returns-clause-watching : goal.returns-clause-watching
+returns-clause-watching c =
+    let clauses = c.args.arena.now.clauses in
+    let id : ℕ = c.args.id in
+    let clause = get_or clauses id [] in
+    let new = view_of c.watch_first_two.new.nodes.items c.watch_first_two.new.heads.items in
+    let known = c.requires.known in
+    let taken = length-take id clauses in
+    let long : length (take id clauses) ≡ id = omega arith in
+    let placed : IsPlaced new = placed_is c.watch_first_two.new.nodes.items c.watch_first_two.new.heads.items c.watch_first_two.ensures.linked in
+    let before = attaching_keeps c.args.self.now (take id clauses) clause c.requires.watching (subst HasEachOnce c.lits.ensures.clause c.lits.ensures.once) c.requires.listed
+    (subst (λ n. IsPlaced (attached n clause c.args.self.now)) (sym long) (subst IsPlaced (attached_it c) placed)) in
+    let now : IsWatching (attached id clause c.args.self.now) (take id clauses ++ clause ∷ []) = subst (λ n. IsWatching (attached n clause c.args.self.now) (take id clauses ++ clause ∷ [])) long before in
+    subst (λ v. IsWatching v (take (id + 1) clauses)) (sym (attached_it c))
+    (subst (IsWatching (attached id clause c.args.self.now)) (sym ((take_at_read clauses id [] known).1)) now)
+
 pub returns-clause-places : goal.returns-clause-places
 returns-clause-places c =
-    ap (λ (v : ListsView). length v.lits) (attached_it c)
-    ∙ watched_lits (grown c.args.self.now) (2 * c.args.id) (get_or c.args.arena.now.clauses c.args.id [])
-    ∙ length-append c.args.self.now.lits (pos 0 ∷ pos 0 ∷ [])
-    ∙ ap (λ n. n + 2) c.requires.next
+    let room = (wider_room c.args.self.now (2 * c.args.id + 2)).1 in
+    subst (λ (v : ListsView). length c.args.self.now.lits ≤ length v.lits) (sym (attached_it c))
+    (subst (λ n. length c.args.self.now.lits ≤ n) (sym (watched_lits (with_places (2 * c.args.id + 2) c.args.self.now) (2 * c.args.id) (get_or c.args.arena.now.clauses c.args.id []))) room)
 
 pub returns-clause-lists : goal.returns-clause-lists
 returns-clause-lists c =
     ap (λ (v : ListsView). length v.lists) (attached_it c)
-    ∙ watched_lists (grown c.args.self.now) (2 * c.args.id) (get_or c.args.arena.now.clauses c.args.id [])
+    ∙ watched_lists (with_places (2 * c.args.id + 2) c.args.self.now) (2 * c.args.id) (get_or c.args.arena.now.clauses c.args.id [])
