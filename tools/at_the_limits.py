@@ -55,7 +55,7 @@ CASES = [
         [[b"c p show 1000000 0\np cnf 1000000 1000000\n"], units(1_000_000)],
         [b"v 1000000 0", b"s ALL"],
     ),
-    ("4,096 shown variables", [[b"p cnf 4096 0\n"]], [b"v 0", b"s ALL"]),
+    ("8,192 shown variables", [[b"p cnf 8192 0\n"]], [b"v 0", b"s ALL"]),
     ("2^30 bytes", [times(2**30, b"\n")], "4 NoHeader line 1073741824"),
     ("a byte more", [times(2**30 + 1, b"\n")], "15 TextTooLong line 1073741825"),
     (

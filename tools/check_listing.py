@@ -5,8 +5,8 @@
 
 It reads the formula by tools/dimacs.py, and then checks of the listing, in this order: its form,
 that each cube is made of shown variables that rise, that the cubes rise in the order of cubes,
-that no two of them overlap, and that a shown assignment lies in a cube exactly if it extends to a
-model. It knows a set of shown assignments by its table, one bit for each of them, so the clauses
+that no two of them overlap, and that a shown assignment lies in a cube exactly if it has the given
+literals and extends to a model. It knows a set of shown assignments by its table, one bit for each of them, so the clauses
 and the cubes may hold up to 24 shown variables, and any number of hidden ones. It ends with
 status 0 and the number of cubes and of good assignments, or with status 1 and the first thing
 that is wrong.
@@ -123,7 +123,8 @@ def check(formula, cubes):
     A variable is in use where a clause or a cube holds it.
     """
     check_form(formula.shown, cubes)
-    used = {abs(literal) for literals in formula.clauses + cubes for literal in literals}
+    clauses = formula.clauses + [[literal] for literal in formula.under]
+    used = {abs(literal) for literals in clauses + cubes for literal in literals}
     used = sorted(used & set(formula.shown))
     if len(used) > MOST_IN_USE:
         raise Wrong("%d shown variables are in use, too many to try each assignment" % len(used))
@@ -135,7 +136,7 @@ def check(formula, cubes):
             words = tables.first(listed & table)
             raise Wrong("cube %d overlaps an earlier one: both hold `%s`" % (number, words))
         listed |= table
-    good = extending(formula.clauses, tables, tables.all)
+    good = extending(clauses, tables, tables.all)
     if good & ~listed:
         raise Wrong("the assignment `%s` is good, and not listed" % tables.first(good & ~listed))
     if listed & ~good:

@@ -12,8 +12,8 @@ import re
 import sys
 from collections import namedtuple
 
-# The clauses are as written; the shown variables rise.
-Formula = namedtuple("Formula", "variables clauses shown")
+# The clauses are as written; the shown variables rise, and so do those of the given literals.
+Formula = namedtuple("Formula", "variables clauses shown under")
 Limits = namedtuple("Limits", "bytes variables clauses literals shown")
 
 LIMITS = Limits(
@@ -21,9 +21,9 @@ LIMITS = Limits(
     variables=1_000_000,
     clauses=4_000_000,
     literals=16_000_000,
-    shown=4_096,
+    shown=8_192,
 )
-MOST_SHOWN_VARIABLE = 1_000_000
+MOST_NAMED_VARIABLE = 1_000_000
 
 NUMBERS = {
     "BadStart": 1,
@@ -42,6 +42,8 @@ NUMBERS = {
     "TooManyShown": 14,
     "TextTooLong": 15,
     "NotBuilt": 20,
+    "UnderBad": 21,
+    "UnderUnended": 22,
 }
 
 
@@ -100,6 +102,7 @@ class Reader:
         self.clause = []  # the literals that stand behind the last 0
         self.literals = 0
         self.shows = []  # for each show line its number and its variables
+        self.given = []  # the literals of the under lines, each with the number of its line
         self.ended = False  # whether a line that begins with % came
 
     def line(self, number, line):
@@ -112,7 +115,11 @@ class Reader:
         first = tokens[0][:1]
         if first == b"c":
             if tokens[:3] == [b"c", b"p", b"show"]:
-                self.show_line(number, tokens[3:])
+                values = self.list_line(number, tokens[3:], "Show", 0)
+                self.shows.append((number, values))
+            elif tokens[:3] == [b"c", b"p", b"under"]:
+                values = self.list_line(number, tokens[3:], "Under", -MOST_NAMED_VARIABLE)
+                self.given += [(number, value) for value in values]
         elif first == b"p":
             self.header_line(number, tokens)
         elif self.header is None:
@@ -154,19 +161,28 @@ class Reader:
         self.literals += 1
         self.clause.append(value)
 
-    def show_line(self, number, tokens):
-        variables = []
+    def list_line(self, number, tokens, kind, least):
+        """The values up to the 0 that ends the line, none of them below the least."""
+        values = []
         for place, token in enumerate(tokens):
             value = number_of(token)
-            if value is None or value < 0 or value > MOST_SHOWN_VARIABLE:
-                raise Refused("ShowBad", number)
+            if value is None or value < least or value > MOST_NAMED_VARIABLE:
+                raise Refused(kind + "Bad", number)
             if value == 0:
                 if place + 1 < len(tokens):
-                    raise Refused("ShowBad", number)
-                self.shows.append((number, variables))
-                return
-            variables.append(value)
-        raise Refused("ShowUnended", number)
+                    raise Refused(kind + "Bad", number)
+                return values
+            values.append(value)
+        raise Refused(kind + "Unended", number)
+
+    def under(self, shown):
+        """The cube of the given literals, or raises the refusal of the first that is misplaced."""
+        shown, under = set(shown), set()
+        for number, literal in self.given:
+            if abs(literal) not in shown or -literal in under:
+                raise Refused("UnderBad", number)
+            under.add(literal)
+        return sorted(under, key=abs)
 
     def end(self, last):
         """The formula, after a last line with this number; or raises the refusal of the end."""
@@ -185,7 +201,7 @@ class Reader:
             shown = sorted({variable for _, names in self.shows for variable in names})
         if len(shown) > self.limits.shown:
             raise Refused("TooManyShown", last)
-        return Formula(variables, self.clauses, list(shown))
+        return Formula(variables, self.clauses, list(shown), self.under(shown))
 
 
 def read_or_raise(data, limits):

@@ -57,8 +57,8 @@ c allsat met 1""".split(b"\n")
 FIRST_LINES = [b"c allsat saved 1", b"c  allsat\tsaved", b" c allsat met x", b"c allsat met 1"]
 FIRST_LINES += [b"c allsat saved1", b"call sat met"]
 HEADERS = [(1_000_000, 0), (1_000_001, 0), (1_000_001, 4_000_001), (3, 4_000_000), (3, 4_000_001)]
-HEADERS += [(4_096, 0), (4_097, 0)]
-NOTED = [name for name, number in NUMBERS.items() if number <= 10 or name == "NotBuilt"]
+HEADERS += [(8_192, 0), (8_193, 0)]
+NOTED = [name for name, number in NUMBERS.items() if number <= 10 or name in ("NotBuilt", "UnderBad")]
 
 
 def random_bytes(choose, most):
@@ -101,6 +101,15 @@ def show_line(choose, variables):
     return line_of(choose, words)
 
 
+def under_line(choose, variables):
+    """An under line, which sometimes holds a literal that cannot be given."""
+    most = variables + 1 if choose.random() < 0.03 else variables
+    count = choose.choice([0, 1, 1, 2]) if most else 0
+    given = [choose.choice([1, -1]) * choose.randint(1, most) for _ in range(count)]
+    words = [b"c", b"p", b"under"] + [number(choose, value) for value in given + [0]]
+    return line_of(choose, words)
+
+
 def random_clauses(choose, variables):
     clauses = []
     for _ in range(choose.randint(0, 14)):
@@ -140,6 +149,7 @@ def tidy_text(choose):
     others = [comment_line(choose) for _ in range(choose.choice([0, 0, 1, 2, 4]))]
     others += [choose.choice([b"", b"", white(choose)]) for _ in range(choose.choice([0, 0, 1, 3]))]
     others += [show_line(choose, header[0]) for _ in range(choose.choice([0, 0, 0, 1, 1, 2, 3]))]
+    others += [under_line(choose, header[0]) for _ in range(choose.choice([0, 0, 0, 0, 1, 1, 2]))]
     for line in others:
         lines.insert(choose.randint(0, len(lines)), line)
     if choose.random() < 0.03:

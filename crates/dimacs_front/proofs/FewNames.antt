@@ -10,7 +10,7 @@ use Rattle.std.proofs.lemmas.Map.Keys.{IsDistinct-push}
 use Rattle.std.proofs.lemmas.Map.Steps.{length-le_from_distinct_below}
 use Rattle.dimacs_front.specs.declared.shown.Named.{Named}
 use Rattle.dimacs_front.specs.Limits.{most_variables}
-use Rattle.dimacs_front.specs.Grammar.{is_named, name_once}
+use Rattle.dimacs_front.specs.Machine.{is_named, name_once}
 
 -- 0, which no show line names, and the variables in their order
 abbrev pub numbers : List Named → List ℕ

@@ -4,7 +4,7 @@ use Rattle.std.specs.List.{filter, range_with_len}
 use Rattle.std.proofs.lemmas.Bool.{cond-true, cond-false, lt-leb}
 use Rattle.std.proofs.lemmas.List.{length_push}
 use Rattle.dimacs_front.specs.Limits.{most_shown}
-use Rattle.dimacs_front.specs.Ending.{few}
+use Rattle.dimacs_front.specs.MachineEnd.{few}
 
 -- the variables from a on, by whether a is one of them
 rest_at : (p : ℕ → Bool) (a n k : ℕ) → n ≡ suc k →

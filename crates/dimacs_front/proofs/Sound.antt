@@ -1,5 +1,6 @@
 -- The sizes of a formula that is read, of which variables its literals are, and how many names are kept.
-use Rattle.std.proofs.Common.{◌≡◌, ℕ, ◌+◌, ◌<◌, ◌≤◌, Bool, true, false, not, cond, eqb, leb, ltb, List, [], ◌∷◌, length, ℤ, nat_abs, Option, Some, None, Result, Ok, Err, IfOk, refl, sym, subst, arith}
+use Rattle.std.proofs.Common.{◌≡◌, ℕ, ◌+◌, ◌<◌, ◌≤◌, Bool, true, false, not, cond, eqb, leb, ltb, List, [], ◌∷◌, length, map, ℤ, pos, nat_abs, Option, Some, None, Result, Ok, Err, IfOk, refl, sym, ◌∙◌, subst, arith}
+use Rattle.std.specs.Prelude.{neg_ℤ}
 use Rattle.std.specs.List.{All, sum_by, range_with_len}
 use Rattle.std.specs.List.Sorted.{IsStrictlyIncreasing}
 use Rattle.std.proofs.lemmas.Bool.{leb-true, ltb-true, eqb-false}
@@ -14,20 +15,30 @@ use Rattle.dimacs_tokens.specs.Seen.{SeenView, seen, begins_with}
 use Rattle.dimacs_tokens.specs.Reading.{eats, line_read, lines_read}
 use Rattle.sat_terms.specs.Literals.{IsLiteralOf}
 use Rattle.dimacs_front.specs.declared.refused.TextRefused.{TextRefused}
-use Rattle.dimacs_front.specs.declared.refused.TextRefused.TheVariants.{HeaderTwice, VariableTooLarge, ShowBad, TooManyVariables, TooManyClauses, TooManyLiterals}
+use Rattle.dimacs_front.specs.declared.refused.TextRefused.TheVariants.{HeaderTwice, VariableTooLarge, ShowBad, TooManyVariables, TooManyClauses, TooManyLiterals, UnderBad}
 use Rattle.dimacs_front.specs.declared.refused.ReadRefused.{ReadRefused}
 use Rattle.dimacs_front.specs.declared.line_place.LinePlace.{LinePlace}
-use Rattle.dimacs_front.specs.declared.line_place.LinePlace.TheVariants.{Beginning, HeaderWord, HeaderVariables, HeaderClauses, HeaderEnd, Clauses, Comment, CommentParted, CommentNamed, Show, ShowEnd, Passed, Over, Refused}
+use Rattle.dimacs_front.specs.declared.header_line.HeaderPlace.{HeaderPlace}
+use Rattle.dimacs_front.specs.declared.header_line.HeaderPlace.TheVariants.{Word, Variables, Clauses, End, Broken}
+use Rattle.dimacs_front.specs.declared.line_place.LinePlace.TheVariants.{Beginning, Header, Numbers, Comment, Show, ShowEnd, Under, UnderEnd, Over, Refused}
 use Rattle.dimacs_front.specs.declared.shown.Named.{Named}
+use Rattle.dimacs_front.specs.declared.under.Given.{Given}
 use Rattle.dimacs_front.specs.declared.input.Input.{Input}
-use Rattle.dimacs_front.specs.LinePlaces.{natural}
+use Rattle.dimacs_front.specs.TextEnds.{first_misplaced, under_of, input_of}
+use Rattle.sat_terms.specs.Cubes.{has_literal}
+use Rattle.sat_terms.specs.Subjects.{IsVariableList}
+use Rattle.dimacs_front.specs.HeaderLines.{natural}
 use Rattle.dimacs_front.specs.Limits.{most_bytes, most_variables, most_clauses, most_literals, most_shown}
-use Rattle.dimacs_front.specs.LinePlaces.{header_begun, comment_begun}
-use Rattle.dimacs_front.specs.Grammar.{WrittenView, nothing_written, clause_ended, literal_added, StateView, at_place, refuse, in_clauses, zero_eaten, literal_eaten, number_eaten, show_ended, variable_named, shown_eaten, below_begun, line_begun, eaten_at, eaten, below_header, closed_at, closed}
-use Rattle.dimacs_front.specs.Ending.{end_refusal, or_named, shown_of, input_of, with_shown, by_end, end_of}
-use Rattle.dimacs_front.specs.Whole.{TextView, text_at_start, eat_token, close_line, text_after, last_line, answer_by, answer, reads}
+use Rattle.dimacs_front.specs.MachinePlaces.{above_begun, in_comment}
+use Rattle.dimacs_front.specs.MachineComment.{comment_begun}
+use Rattle.dimacs_front.specs.Machine.{WrittenView, nothing_written, clause_written, literal_written, StateView, at_place, refuse, in_clauses, zero_eaten, literal_eaten, number_eaten, show_ended, variable_named, shown_eaten, literal_given, under_eaten, below_begun, line_begun, eaten_at, eaten, below_header, header_ended, closed_at, closed}
+use Rattle.dimacs_front.specs.MachineEnd.{end_refusal, or_named, names_shown, few, with_under, with_shown, by_end, end_of}
+use Rattle.dimacs_front.specs.Whole.{last_line}
+use Rattle.dimacs_front.specs.MachineText.{TextView, text_at_start, eat_token, close_line, text_after, answer_by, answer, machine_reads}
 use Rattle.fault_io.specs.Sources.{SourceView}
 use Rattle.dimacs_front.specs.Answers.{ReadsText, IsWithinLimits}
+use Rattle.dimacs_front.proofs.TextTie.{reads_same}
+use Rattle.dimacs_front.proofs.UnderCube.{tested_cube}
 use Rattle.dimacs_front.proofs.FewNames.{AreFew, none_few, once_few, few_length}
 
 -- what holds of the formula behind every token
@@ -50,7 +61,7 @@ nothing_sound v c h = record {
 }
 
 ended_sound : (w : WrittenView) → IsSound w → length w.clauses < most_clauses →
-    IsSound (clause_ended w)
+    IsSound (clause_written w)
 ended_sound w s h = record {
   within = s.within;
   named = All-push (All (IsLiteralOf w.variables)) w.clauses w.open_clause s.named s.open_named;
@@ -61,7 +72,7 @@ ended_sound w s h = record {
 }
 
 added_sound : (w : WrittenView) (l : ℤ) → IsSound w → 0 < nat_abs l → nat_abs l ≤ w.variables →
-    w.literals < most_literals → IsSound (literal_added w l)
+    w.literals < most_literals → IsSound (literal_written w l)
 added_sound w l s some le h = record {
   within = s.within;
   named = s.named;
@@ -78,7 +89,7 @@ IsSoundState s = IsSound s.formula × AreFew s.named
 -- a token among the clauses
 zero_sound : (n : ℕ) (s : StateView) (q : Bool) → ltb (length s.formula.clauses) most_clauses ≡ q →
     IsSoundState s →
-    IsSoundState (cond q (in_clauses s (clause_ended s.formula)) (refuse s (TooManyClauses n)))
+    IsSoundState (cond q (in_clauses s (clause_written s.formula)) (refuse s (TooManyClauses n)))
 zero_sound n s true e h =
     (ended_sound s.formula h.0 (ltb-true (length s.formula.clauses) most_clauses e), h.1)
 zero_sound n s false e h = h
@@ -86,7 +97,7 @@ zero_sound n s false e h = h
 literal_sound : (n : ℕ) (s : StateView) (l : ℤ) (m q : Bool) →
     leb (nat_abs l) s.formula.variables ≡ m → ltb s.formula.literals most_literals ≡ q →
     0 < nat_abs l → IsSoundState s →
-    IsSoundState (cond m (cond q (in_clauses s (literal_added s.formula l)) (refuse s (TooManyLiterals n)))
+    IsSoundState (cond m (cond q (in_clauses s (literal_written s.formula l)) (refuse s (TooManyLiterals n)))
     (refuse s (VariableTooLarge n)))
 literal_sound n s l true true e f some h =
     let le : nat_abs l ≤ s.formula.variables = leb-true (nat_abs l) s.formula.variables e in
@@ -126,29 +137,32 @@ shown_sound : (n : ℕ) (s : StateView) (o : Option ℕ) → IsSoundState s →
 shown_sound n s None h = h
 shown_sound n s (Some v) h = shown_sound-at n s v (eqb v 0) (leb v most_variables) refl refl h
 
+under_sound : (n : ℕ) (s : StateView) (o : Option ℤ) → IsSoundState s →
+    IsSoundState (under_eaten n s o)
+under_sound n s None h = h
+under_sound n s (Some l) h =
+    either_sound (eqb (nat_abs l) 0) _ _ h
+    (either_sound (leb (nat_abs l) most_variables) (literal_given n s l) (refuse s (UnderBad n)) h h)
+
 begun_sound : (n : ℕ) (s : StateView) (t : SeenView) → IsSoundState s →
     IsSoundState (line_begun n s t)
 begun_sound n s t h =
     let numbered : IsSoundState (number_eaten n s (value_of t.number)) = number_sound n s (value_of t.number) h in
-    either_sound (begins_with t 99) (at_place s (comment_begun t)) _ h
-    (either_sound s.started (below_begun n s t) (at_place s (header_begun n t))
+    either_sound (begins_with t 99) (at_place s (in_comment n (comment_begun t))) _ h
+    (either_sound s.started (below_begun n s t) (at_place s (above_begun n t))
     (either_sound (begins_with t 112) (refuse s (HeaderTwice n)) _ h (either_sound (begins_with t 37) (at_place s Over) _ h numbered))
     h)
 
 eaten_sound-at : (p : LinePlace) (n : ℕ) (s : StateView) (t : SeenView) → IsSoundState s →
     IsSoundState (eaten_at p n s t)
 eaten_sound-at Beginning n s t h = begun_sound n s t h
-eaten_sound-at HeaderWord n s t h = h
-eaten_sound-at HeaderVariables n s t h = h
-eaten_sound-at (HeaderClauses v) n s t h = h
-eaten_sound-at (HeaderEnd v c) n s t h = h
-eaten_sound-at Clauses n s t h = number_sound n s (value_of t.number) h
-eaten_sound-at Comment n s t h = h
-eaten_sound-at CommentParted n s t h = h
-eaten_sound-at CommentNamed n s t h = h
+eaten_sound-at (Header k) n s t h = h
+eaten_sound-at Numbers n s t h = number_sound n s (value_of t.number) h
+eaten_sound-at (Comment c) n s t h = h
 eaten_sound-at Show n s t h = shown_sound n s (natural (value_of t.number)) h
 eaten_sound-at ShowEnd n s t h = h
-eaten_sound-at Passed n s t h = h
+eaten_sound-at Under n s t h = under_sound n s (value_of t.number) h
+eaten_sound-at UnderEnd n s t h = h
 eaten_sound-at Over n s t h = h
 eaten_sound-at (Refused r) n s t h = h
 
@@ -166,20 +180,24 @@ header_sound n s v c true e h =
     (nothing_sound v c (leb-true v most_variables e), h.1) h
 header_sound n s v c false e h = h
 
+header_sound-at : (k : HeaderPlace) (n : ℕ) (s : StateView) → IsSoundState s →
+    IsSoundState (header_ended k n s)
+header_sound-at Word n s h = h
+header_sound-at Variables n s h = h
+header_sound-at (Clauses v) n s h = h
+header_sound-at (End v c) n s h = header_sound n s v c (leb v most_variables) refl h
+header_sound-at Broken n s h = h
+
 closed_sound-at : (p : LinePlace) (n : ℕ) (s : StateView) → IsSoundState s →
     IsSoundState (closed_at p n s)
 closed_sound-at Beginning n s h = h
-closed_sound-at HeaderWord n s h = h
-closed_sound-at HeaderVariables n s h = h
-closed_sound-at (HeaderClauses v) n s h = h
-closed_sound-at (HeaderEnd v c) n s h = header_sound n s v c (leb v most_variables) refl h
-closed_sound-at Clauses n s h = h
-closed_sound-at Comment n s h = h
-closed_sound-at CommentParted n s h = h
-closed_sound-at CommentNamed n s h = h
+closed_sound-at (Header k) n s h = header_sound-at k n s h
+closed_sound-at Numbers n s h = h
+closed_sound-at (Comment c) n s h = h
 closed_sound-at Show n s h = h
 closed_sound-at ShowEnd n s h = h
-closed_sound-at Passed n s h = h
+closed_sound-at Under n s h = h
+closed_sound-at UnderEnd n s h = h
 closed_sound-at Over n s h = h
 closed_sound-at (Refused r) n s h = h
 
@@ -221,14 +239,37 @@ range_named n = λ k d lt.
     let here = get_or-range_with_len 1 n k d (omega arith) in
     (omega arith, omega arith)
 
+-- the shown variables
+names_rise : (g : Bool) (ms : List Named) (v : ℕ) → IsStrictlyIncreasing (names_shown g ms v)
+names_rise g ms v =
+    IsStrictlyIncreasing-filter (or_named (not g) ms) (range_with_len 1 v) (range_rises 1 v)
+
+names_named : (g : Bool) (ms : List Named) (v : ℕ) → All (IsVariableOf v) (names_shown g ms v)
+names_named g ms v =
+    All-filter (or_named (not g) ms) (IsVariableOf v) (range_with_len 1 v) (range_named v)
+
+pub names_are_variables : (g : Bool) (ms : List Named) (v : ℕ) (vs : List ℕ) → v ≤ most_variables →
+    Some vs ≡ few (names_shown g ms v) → IsVariableList vs
+names_are_variables g ms v vs le e = at (leb (length (names_shown g ms v)) most_shown) e
+  where
+    at : (q : Bool) → Some vs ≡ cond q (Some (names_shown g ms v)) None → IsVariableList vs
+    at true e =
+        let same : vs ≡ names_shown g ms v = cc in
+        subst IsVariableList (sym same) (record {
+          rising = names_rise g ms v;
+          named = λ k d lt. let h = names_named g ms v k d lt in (h.0, omega (arith, h.1));
+        })
+    at false e = absurd (cc)
+
 -- the input of a text that ends
-shown_limits : (s : StateView) (vs : List ℕ) → vs ≡ shown_of s.given s.named s.formula.variables →
-    length vs ≤ most_shown → IsSound s.formula → IsWithinLimits (input_of s.formula vs)
+shown_limits : (s : StateView) (vs : List ℕ) → vs ≡ names_shown s.given s.named s.formula.variables →
+    length vs ≤ most_shown → IsSound s.formula →
+    IsWithinLimits (input_of s.formula.variables s.formula.clauses vs (under_of s.under vs))
 shown_limits s vs e le h =
-    let p : ℕ → Bool = or_named (not s.given) s.named in
     let v : ℕ = s.formula.variables in
-    let rises : IsStrictlyIncreasing vs = subst IsStrictlyIncreasing (sym e) (IsStrictlyIncreasing-filter p (range_with_len 1 v) (range_rises 1 v)) in
-    let named : All (IsVariableOf v) vs = subst (λ (xs : List ℕ). All (IsVariableOf v) xs) (sym e) (All-filter p (IsVariableOf v) (range_with_len 1 v) (range_named v)) in
+    let ls : List ℤ = map (λ g. Given.literal g) s.under in
+    let rises : IsStrictlyIncreasing vs = subst IsStrictlyIncreasing (sym e) (names_rise s.given s.named v) in
+    let named : All (IsVariableOf v) vs = subst (λ (xs : List ℕ). All (IsVariableOf v) xs) (sym e) (names_named s.given s.named v) in
     record {
       subject = record {
         formula = record {
@@ -238,24 +279,33 @@ shown_limits s vs e le h =
           named = h.named;
         };
         shown = record { rising = rises; named = named };
+        under = tested_cube (λ u. has_literal ls (pos u)) (λ u. has_literal ls (neg_ℤ (pos u))) vs rises
+            (λ k d lt. (named k d lt).0);
       };
       shown = le;
     }
 
+under_limits : (s : StateView) (input : Input) (vs : List ℕ) (o : Option ℕ) →
+    vs ≡ names_shown s.given s.named s.formula.variables → length vs ≤ most_shown →
+    IsSound s.formula → with_under s.formula s.under vs o ≡ Ok input → IsWithinLimits input
+under_limits s input vs None e le h k =
+    let same : input_of s.formula.variables s.formula.clauses vs (under_of s.under vs) ≡ input = cc in
+    subst IsWithinLimits same (shown_limits s vs e le h)
+under_limits s input vs (Some line) e le h k = absurd (cc)
+
 few_limits : (n : ℕ) (s : StateView) (input : Input) (vs : List ℕ) (q : Bool) →
-    leb (length vs) most_shown ≡ q → vs ≡ shown_of s.given s.named s.formula.variables →
-    IsSound s.formula → with_shown n s.formula (cond q (Some vs) None) ≡ Ok input →
+    leb (length vs) most_shown ≡ q → vs ≡ names_shown s.given s.named s.formula.variables →
+    IsSound s.formula → with_shown n s.formula s.under (cond q (Some vs) None) ≡ Ok input →
     IsWithinLimits input
 few_limits n s input vs true e f h k =
-    let same : input_of s.formula vs ≡ input = cc in
-    subst IsWithinLimits same (shown_limits s vs f (leb-true (length vs) most_shown e) h)
+    under_limits s input vs (first_misplaced vs [] s.under) f (leb-true (length vs) most_shown e) h k
 few_limits n s input vs false e f h k = absurd (cc)
 
 by_end_limits : (o : Option TextRefused) (n : ℕ) (s : StateView) (input : Input) →
     IsSound s.formula → by_end o n s ≡ Ok input → IsWithinLimits input
 by_end_limits (Some r) n s input h k = absurd (cc)
 by_end_limits None n s input h k =
-    let vs : List ℕ = shown_of s.given s.named s.formula.variables in
+    let vs : List ℕ = names_shown s.given s.named s.formula.variables in
     few_limits n s input vs (leb (length vs) most_shown) refl refl h k
 
 end_limits : (n : ℕ) (s : StateView) (input : Input) → IsSound s.formula → end_of n s ≡ Ok input →
@@ -273,15 +323,16 @@ reads_limits-at : (q : Bool) (j : TextView) (r : TextRefused) (input : Input) �
 reads_limits-at true j r input h k = answer_limits j.stopped j.lines j.state input h k
 reads_limits-at false j r input h k = absurd (cc)
 
-reads_limits : (bs : List ℕ) (input : Input) → reads bs ≡ Ok input → IsWithinLimits input
-unfolding reads
+reads_limits : (bs : List ℕ) (input : Input) → machine_reads bs ≡ Ok input → IsWithinLimits input
+unfolding machine_reads
 reads_limits bs input k =
     reads_limits-at (leb (length bs) most_bytes) (text_after (lines bs)) _ input (text_sound (lines bs)).0 k
 
 -- what is read is within the limits
 pub text_limits : (old new : SourceView) (result : Result Input ReadRefused) →
     ReadsText old new result → IfOk result IsWithinLimits
-text_limits old new (Ok input) r = reads_limits r.bytes input r.says.says
+text_limits old new (Ok input) r =
+    reads_limits r.bytes input (sym (reads_same r.bytes) ∙ r.says.says)
 text_limits old new (Err failed) r = tt
 
 -- however long the text is, few names are kept

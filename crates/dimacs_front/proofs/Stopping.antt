@@ -10,9 +10,9 @@ use Rattle.dimacs_tokens.specs.Reading.{Reading, reading_at, eats, line_read, li
 use Rattle.dimacs_tokens.proofs.ReadingSteps.{reading_append, reading_ends}
 use Rattle.dimacs_front.specs.declared.refused.TextRefused.{TextRefused}
 use Rattle.dimacs_front.specs.Limits.{most_bytes}
-use Rattle.dimacs_front.specs.LinePlaces.{refusal_at}
-use Rattle.dimacs_front.specs.Grammar.{closed}
-use Rattle.dimacs_front.specs.Whole.{TextView, text_at_start, first_of, eat_token, close_line, text_after, answer_by, answer, long_by, long_answer, reads, stops}
+use Rattle.dimacs_front.specs.MachinePlaces.{refusal_at}
+use Rattle.dimacs_front.specs.Machine.{closed}
+use Rattle.dimacs_front.specs.MachineText.{TextView, text_at_start, first_of, eat_token, close_line, text_after, answer_by, answer, long_by, long_answer, machine_reads, machine_stops}
 
 -- the reader behind these bytes of a text
 abbrev pub text_behind : List ℕ → Reading TextView
@@ -50,8 +50,8 @@ pub lines_behind : (bs : List ℕ) → (text_behind bs).state.lines ≡ length (
 lines_behind bs =
     lines_at bs ∙ lines_counted text_at_start (complete bs) ∙ zero-add (length (complete bs))
 
-pub stops_behind : (bs : List ℕ) → (text_behind bs).state.stopped ≡ stops bs
-unfolding stops
+pub stops_behind : (bs : List ℕ) → (text_behind bs).state.stopped ≡ machine_stops bs
+unfolding machine_stops
 stops_behind bs = stop_at bs
 
 -- a refusal stays
@@ -97,7 +97,7 @@ unfolding text_ends
 end_keeps x r h = end_keeps-at x r r.in_line h
 
 -- a text that begins with a refused text is refused in the same way
-pub stops_stay : (x : TextRefused) (bs ps : List ℕ) → stops bs ≡ Some x →
+pub stops_stay : (x : TextRefused) (bs ps : List ℕ) → machine_stops bs ≡ Some x →
     (text_behind (bs ++ ps)).state.stopped ≡ Some x
 stops_stay x bs ps h =
     ap (λ (r : Reading TextView). r.state.stopped) (reading_append eat_token close_line text_at_start bs ps)
@@ -105,8 +105,8 @@ stops_stay x bs ps h =
 
 -- what a text says that is not too long
 pub reads-short : (bs : List ℕ) → length bs ≤ most_bytes →
-    reads bs ≡ answer (text_ends eat_token close_line (text_behind bs))
-unfolding reads
+    machine_reads bs ≡ answer (text_ends eat_token close_line (text_behind bs))
+unfolding machine_reads
 reads-short bs h =
     cond-true _ _ _ (le-leb (length bs) most_bytes h)
     ∙ ap answer (reading_ends eat_token close_line text_at_start bs)
@@ -117,14 +117,14 @@ long_at bs = λ i. long_by (sym (stop_at bs) i) (sym (lines_at bs) i)
 
 -- and what one says that is
 pub reads-long : (bs : List ℕ) → most_bytes < length bs →
-    reads bs ≡ Err (long_answer (text_behind (take most_bytes bs)).state)
-unfolding reads
+    machine_reads bs ≡ Err (long_answer (text_behind (take most_bytes bs)).state)
+unfolding machine_reads
 reads-long bs h =
     cond-false _ _ _ (lt-leb (length bs) most_bytes h)
     ∙ ap Err (long_at (take most_bytes bs))
 
 -- bytes behind a text that is too long change nothing
-pub reads-longer : (bs ps : List ℕ) → most_bytes < length bs → reads (bs ++ ps) ≡ reads bs
+pub reads-longer : (bs ps : List ℕ) → most_bytes < length bs → machine_reads (bs ++ ps) ≡ machine_reads bs
 reads-longer bs ps h =
     let longer : most_bytes < length (bs ++ ps) = omega (arith, length-append bs ps) in
     reads-long (bs ++ ps) longer
@@ -143,7 +143,7 @@ take_over (suc k) (b ∷ bs) ps h =
 
 -- behind a text that is not too long, so many bytes more are judged
 pub reads-beyond : (bs ps : List ℕ) → length bs ≤ most_bytes → most_bytes < length bs + length ps →
-    reads (bs ++ ps) ≡
+    machine_reads (bs ++ ps) ≡
     Err (long_answer (fold (read_byte eat_token close_line) (text_behind bs) (take (most_bytes - length bs) ps)).state)
 reads-beyond bs ps h long =
     let longer : most_bytes < length (bs ++ ps) = omega (arith, length-append bs ps) in
@@ -153,7 +153,7 @@ reads-beyond bs ps h long =
 
 -- a refusal of a complete line is the refusal of each text that goes on
 pub reads-stopped : (x : TextRefused) (bs ps : List ℕ) → length bs ≤ most_bytes →
-    stops bs ≡ Some x → reads (bs ++ ps) ≡ Err x
+    machine_stops bs ≡ Some x → machine_reads (bs ++ ps) ≡ Err x
 reads-stopped x bs ps h e =
     elim (cases_lt most_bytes (length (bs ++ ps))) [
       | inl long ↦

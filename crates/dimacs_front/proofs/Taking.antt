@@ -17,10 +17,12 @@ use Rattle.dimacs_front.specs.declared.refused.ReadRefused.{ReadRefused}
 use Rattle.dimacs_front.specs.declared.refused.ReadRefused.TheVariants.{Text, ReadFault, OutOfMemory}
 use Rattle.dimacs_front.specs.declared.input.Input.{Input}
 use Rattle.dimacs_front.specs.Limits.{most_bytes, piece_size}
-use Rattle.dimacs_front.specs.Whole.{TextView, text_at_start, eat_token, close_line, answer, long_by, long_answer, reads, stops}
+use Rattle.dimacs_front.specs.Whole.{reads, stops}
+use Rattle.dimacs_front.specs.MachineText.{TextView, text_at_start, eat_token, close_line, answer, long_by, long_answer}
 use Rattle.dimacs_front.specs.Pieces.{Gives, behind, IsStopped, IsBeyond, FeedsOn}
 use Rattle.dimacs_front.specs.Answers.{IsTooMuch, IsRefused, SaysOf, CountsFaults, IsAskedFor, ReadsText, TellsText}
-use Rattle.dimacs_front.proofs.Stopping.{text_behind, lines_behind, stops_behind, stops_stay, reads-short, reads-longer, reads-beyond, reads-stopped}
+use Rattle.dimacs_front.proofs.Stopping.{text_behind, lines_behind}
+use Rattle.dimacs_front.proofs.ReadingOn.{stops_behind, stops_stay, reads-short, reads-longer, reads-beyond, reads-stopped}
 
 -- the reader stands behind the bytes taken, and no complete line of them is refused
 pub record TookText (old new : SourceView) (reader : Reading TextView) (count : ℕ) : Type 0 where

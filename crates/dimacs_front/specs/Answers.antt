@@ -74,5 +74,5 @@ TellsText left result = Unit {0}
 -- the subject is one that every search takes, and shows few variables
 pub record IsWithinLimits (input : Input) : Type 0 where
   pub subject : IsSubject input.subject.formula.variables input.subject.formula.clauses
-      input.subject.shown
+      input.subject.shown input.subject.under
   pub shown : length input.subject.shown ≤ most_shown

@@ -6,7 +6,7 @@ use Rattle.dimacs_front.specs.declared.refused.ReadRefused.{ReadRefused}
 use Rattle.dimacs_front.specs.declared.refused.ReadRefused.TheVariants.{Text, ReadFault, OutOfMemory}
 use Rattle.dimacs_front.specs.declared.input.Input.{Input}
 use Rattle.dimacs_front.specs.Limits.{most_bytes}
-use Rattle.dimacs_front.specs.Whole.{TextView, eat_token, close_line, long_answer}
+use Rattle.dimacs_front.specs.MachineText.{TextView, eat_token, close_line, long_answer}
 
 -- the answer, unless there was no memory
 abbrev pub Gives : Result Input TextRefused → Result Input ReadRefused → Type 0

@@ -1,28 +1,8 @@
-//! Texts of 2^30 bytes and more.
+//! Texts of 2^30 bytes and more. Those of as many lines are read outside the gate, by
+//! `tools/at_the_limits.py`.
 use super::*;
 use crate::made_text::MadeText;
 use std::test::Fail;
-
-#[test]
-fn line_ends_one_byte_beyond_the_limit_are_too_long(rt: HostRuntime) {
-    let line = 1_073_741_825;
-    let mut source = MadeText::make(b"", b"\n", 1_073_741_825, b"");
-    assert_eq!(rt;
-        read_subject(rt.alloc(), &mut source).err(),
-        Some(ReadRefused::Text(TextRefused::TextTooLong { line }))
-    );
-    assert_eq!(rt; source.given(), 1_073_741_825);
-}
-
-#[test]
-fn line_ends_up_to_the_limit_are_a_text_without_a_header(rt: HostRuntime) {
-    let line = 1_073_741_824;
-    let mut source = MadeText::make(b"", b"\n", 1_073_741_824, b"");
-    assert_eq!(rt;
-        read_subject(rt.alloc(), &mut source).err(),
-        Some(ReadRefused::Text(TextRefused::NoHeader { line }))
-    );
-}
 
 /// 10 bytes, and then 13 bytes whose last one counts.
 #[test]

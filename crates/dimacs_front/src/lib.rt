@@ -6,6 +6,8 @@
 //! DIMACS text, on sources of bytes and on the terms.
 #![tactic(auto)]
 
+mod comment_line;
+mod header_line;
 mod input;
 #[cfg(test)]
 mod length_tests;
@@ -20,7 +22,10 @@ mod refused;
 mod shown;
 pub mod text_laws;
 mod text_reader;
+#[cfg(test)]
+mod text_rows;
 mod text_state;
+mod under;
 mod written;
 
 pub use input::Input;

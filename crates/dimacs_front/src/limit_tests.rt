@@ -1,7 +1,8 @@
 //! Each limit on numbers, met and passed, and lines of any length.
 use super::*;
 use crate::made_text::MadeText;
-use crate::tests::{numbers, other, read};
+use crate::tests::{numbers, read};
+use crate::text_rows::other_row;
 use std::alloc::{AllocError, Global};
 use std::test::Fail;
 
@@ -43,81 +44,32 @@ fn a_header_may_name_a_million_variables_and_four_million_clauses(
     let alloc = rt.alloc();
     let input = read(alloc, b"p cnf 1000000 0\nc p show 0\n", 1000, &[])??;
     assert_eq!(rt; input.subject.formula.variables, 1_000_000);
-    let line = 1;
-    let texts: [(&[u8], TextRefused); 10] = [
-        (b"p cnf 1000000 0\n", TextRefused::TooManyShown { line }),
-        (
-            b"c\np cnf 1000001 0\n",
-            TextRefused::TooManyVariables { line: 2 },
-        ),
-        (
-            b"p cnf 4294967297 0\n",
-            TextRefused::TooManyVariables { line },
-        ),
-        (
-            b"p cnf 18446744073709551617 0\n",
-            TextRefused::TooManyVariables { line },
-        ),
-        (b"p cnf 1000001 x\n", TextRefused::BadHeader { line }),
-        (
-            b"p cnf 1 4000000\n",
-            TextRefused::ClauseCount {
-                line,
-                said: 4_000_000,
-                found: 0,
-            },
-        ),
-        (
-            b"c\np cnf 1 4000001\n",
-            TextRefused::TooManyClauses { line: 2 },
-        ),
-        (
-            b"p cnf 1 4294967296\n",
-            TextRefused::TooManyClauses { line },
-        ),
-        (
-            b"p cnf 1 18446744073709551616\n",
-            TextRefused::TooManyClauses { line },
-        ),
-        (b"p cnf 1 4000001 x\n", TextRefused::BadHeader { line }),
-    ];
-    assert_eq!(rt; other(alloc, &texts)?, None);
+    let rows = "\
+p cnf 1000000 0| => TooManyShown 1
+c|p cnf 1000001 0| => TooManyVariables 2
+p cnf 4294967297 0| => TooManyVariables 1
+p cnf 18446744073709551617 0| => TooManyVariables 1
+p cnf 1000001 x| => BadHeader 1
+p cnf 1 4000000| => ClauseCount 1 said 4000000 found 0
+c|p cnf 1 4000001| => TooManyClauses 2
+p cnf 1 4294967296| => TooManyClauses 1
+p cnf 1 18446744073709551616| => TooManyClauses 1
+p cnf 1 4000001 x| => BadHeader 1";
+    assert_eq!(rt; other_row(alloc, rows)?, None);
     Ok(())
 }
 
 #[test]
 fn a_variable_beyond_all_machine_numbers_is_too_large(rt: HostRuntime) -> Result<(), Fail> {
-    let texts: [(&[u8], TextRefused); 7] = [
-        (
-            b"p cnf 1 1\n4294967297 0\n",
-            TextRefused::VariableTooLarge { line: 2 },
-        ),
-        (
-            b"p cnf 1 1\n-4294967297 0\n",
-            TextRefused::VariableTooLarge { line: 2 },
-        ),
-        (
-            b"p cnf 1 1\n18446744073709551617 0\n",
-            TextRefused::VariableTooLarge { line: 2 },
-        ),
-        (
-            b"p cnf 1 1\n-18446744073709551617 0\n",
-            TextRefused::VariableTooLarge { line: 2 },
-        ),
-        (
-            b"p cnf 1 1\n-9223372036854775808 0\n",
-            TextRefused::VariableTooLarge { line: 2 },
-        ),
-        (
-            b"p cnf 1 1\nc p show 4294967297 0\n1\n",
-            TextRefused::ShowBad { line: 2 },
-        ),
-        (
-            b"p cnf 1 1\nc p show 18446744073709551617 0\n1\n",
-            TextRefused::ShowBad { line: 2 },
-        ),
-    ];
-    assert_eq!(rt; other(rt.alloc(), &texts)?, None);
+    let rows = "\
+p cnf 1 1|4294967297 0| => VariableTooLarge 2
+p cnf 1 1|-4294967297 0| => VariableTooLarge 2
+p cnf 1 1|18446744073709551617 0| => VariableTooLarge 2
+p cnf 1 1|-18446744073709551617 0| => VariableTooLarge 2
+p cnf 1 1|-9223372036854775808 0| => VariableTooLarge 2
+p cnf 1 1|c p show 4294967297 0|1| => ShowBad 2
+p cnf 1 1|c p show 18446744073709551617 0|1| => ShowBad 2";
+    assert_eq!(rt; other_row(rt.alloc(), rows)?, None);
     Ok(())
 }
 
@@ -213,42 +165,31 @@ fn one_clause_may_have_sixteen_million_literals(rt: HostRuntime) -> Result<(), F
 }
 
 #[test]
-fn all_of_4096_variables_may_be_shown(rt: HostRuntime) -> Result<(), Fail> {
+fn all_of_8192_variables_may_be_shown(rt: HostRuntime) -> Result<(), Fail> {
     let alloc = rt.alloc();
-    let input = read(alloc, b"p cnf 4096 0\n", 1000, &[])??;
-    assert_eq!(rt; input.subject.shown.as_slice().len(), 4096);
-    let texts: [(&[u8], TextRefused); 3] = [
-        (b"p cnf 4097 0", TextRefused::TooManyShown { line: 1 }),
-        (
-            b"\np cnf 4097 0\nc\n\n%\nx\n",
-            TextRefused::TooManyShown { line: 6 },
-        ),
-        (
-            b"p cnf 4097 1\nc\n",
-            TextRefused::ClauseCount {
-                line: 2,
-                said: 1,
-                found: 0,
-            },
-        ),
-    ];
-    assert_eq!(rt; other(alloc, &texts)?, None);
+    let input = read(alloc, b"p cnf 8192 0\n", 1000, &[])??;
+    assert_eq!(rt; input.subject.shown.as_slice().len(), 8192);
+    let rows = "\
+p cnf 8193 0 => TooManyShown 1
+|p cnf 8193 0|c||%|x| => TooManyShown 6
+p cnf 8193 1|c| => ClauseCount 2 said 1 found 0";
+    assert_eq!(rt; other_row(alloc, rows)?, None);
     Ok(())
 }
 
 #[test]
-fn show_lines_may_name_4096_variables(rt: HostRuntime) -> Result<(), Fail> {
+fn show_lines_may_name_8192_variables(rt: HostRuntime) -> Result<(), Fail> {
     let alloc = rt.alloc();
-    let front = b"p cnf 4097 0\nc p show";
-    let named = names(alloc, 4096)?;
-    for end in [b" 0\n".as_slice(), b" 0\nc p show 1 4096 0\n"] {
+    let front = b"p cnf 8193 0\nc p show";
+    let named = names(alloc, 8192)?;
+    for end in [b" 0\n".as_slice(), b" 0\nc p show 1 8192 0\n"] {
         let input = read_made(alloc, front, &named, 2, end)?;
-        assert_eq!(rt; input.subject.shown.as_slice().len(), 4096);
+        assert_eq!(rt; input.subject.shown.as_slice().len(), 8192);
     }
     for (end, line) in [
-        (b" 4097 0\n".as_slice(), 2),
-        (b" 0\nc p show 4097 0\n", 3),
-        (b" 0\nc p show 4097 0\n\nc p show 0\n%\n", 6),
+        (b" 8193 0\n".as_slice(), 2),
+        (b" 0\nc p show 8193 0\n", 3),
+        (b" 0\nc p show 8193 0\n\nc p show 0\n%\n", 6),
     ] {
         assert_eq!(rt;
             read_made(alloc, front, &named, 1, end).err(),
@@ -263,25 +204,12 @@ fn a_show_line_may_name_the_millionth_variable(rt: HostRuntime) -> Result<(), Fa
     let alloc = rt.alloc();
     let input = read(alloc, b"p cnf 1000000 0\nc p show 1000000 0\n", 1000, &[])??;
     assert_eq!(rt; input.subject.shown.as_slice(), [1_000_000].as_slice());
-    let texts: [(&[u8], TextRefused); 4] = [
-        (
-            b"c p show 1 0\nc p show 1000000 0\np cnf 2 0\n",
-            TextRefused::ShowBad { line: 2 },
-        ),
-        (
-            b"c p show 1000000 0\np cnf 2 1\n1\n",
-            TextRefused::Unfinished { line: 3 },
-        ),
-        (
-            b"c p show 1000001 0\np cnf 2 1\n1\n",
-            TextRefused::ShowBad { line: 1 },
-        ),
-        (
-            b"p cnf 1000000 1\nc p show 1000001\n1\n",
-            TextRefused::ShowBad { line: 2 },
-        ),
-    ];
-    assert_eq!(rt; other(alloc, &texts)?, None);
+    let rows = "\
+c p show 1 0|c p show 1000000 0|p cnf 2 0| => ShowBad 2
+c p show 1000000 0|p cnf 2 1|1| => Unfinished 3
+c p show 1000001 0|p cnf 2 1|1| => ShowBad 1
+p cnf 1000000 1|c p show 1000001|1| => ShowBad 2";
+    assert_eq!(rt; other_row(alloc, rows)?, None);
     Ok(())
 }
 

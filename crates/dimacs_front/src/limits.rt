@@ -13,4 +13,4 @@ pub const MOST_CLAUSES: u32 = 4_000_000;
 pub const MOST_LITERALS: u32 = 16_000_000;
 
 /// The most variables that may be shown.
-pub const MOST_SHOWN: usize = 4_096;
+pub const MOST_SHOWN: usize = 8_192;

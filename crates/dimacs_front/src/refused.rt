@@ -53,6 +53,13 @@ pub enum TextRefused {
     /// The text has too many bytes.
     #[error("line {line}: the text is too long")]
     TextTooLong { line: u64 },
+    /// An under line holds something that is no literal, one of a variable that is not shown, or one
+    /// whose negation is given before it.
+    #[error("line {line}: an under line holds what is no literal that can be given")]
+    UnderBad { line: u64 },
+    /// An under line has no 0.
+    #[error("line {line}: an under line has no 0")]
+    UnderUnended { line: u64 },
     /// The first line names a saved or a met text.
     #[error("line {line}: texts of this form are not read yet")]
     NotBuilt { line: u64 },
@@ -80,6 +87,8 @@ impl TextRefused {
             TextRefused::TooManyShown { .. } => 14,
             TextRefused::TextTooLong { .. } => 15,
             TextRefused::NotBuilt { .. } => 20,
+            TextRefused::UnderBad { .. } => 21,
+            TextRefused::UnderUnended { .. } => 22,
         }
     }
 
@@ -104,6 +113,8 @@ impl TextRefused {
             TextRefused::TooManyShown { .. } => "TooManyShown",
             TextRefused::TextTooLong { .. } => "TextTooLong",
             TextRefused::NotBuilt { .. } => "NotBuilt",
+            TextRefused::UnderBad { .. } => "UnderBad",
+            TextRefused::UnderUnended { .. } => "UnderUnended",
         }
     }
 
@@ -128,6 +139,8 @@ impl TextRefused {
             TextRefused::TooManyShown { line } => *line,
             TextRefused::TextTooLong { line } => *line,
             TextRefused::NotBuilt { line } => *line,
+            TextRefused::UnderBad { line } => *line,
+            TextRefused::UnderUnended { line } => *line,
         }
     }
 }

@@ -1,7 +1,7 @@
 //! The variables that are shown.
 ghost use Rattle.std.specs.Prelude.{◌≡◌, ◌<◌, ◌≤◌, ℕ, [], not, false, get_or, vec_len, IfOk, OnOk};
-ghost use Rattle.dimacs_front.specs.Grammar.{is_named, name_once};
-ghost use Rattle.dimacs_front.specs.Ending.{first_above, few, or_named, shown_of};
+ghost use Rattle.dimacs_front.specs.Machine.{is_named, name_once};
+ghost use Rattle.dimacs_front.specs.MachineEnd.{first_name_above, few, or_named, names_shown};
 
 use crate::{MOST_SHOWN, MOST_VARIABLES};
 use sat_terms::Items;
@@ -26,7 +26,7 @@ pub struct ShowLines {
 impl Model for ShowLines {
     ghost use Rattle.std.specs.Prelude.{◌≡◌, ℕ, List, false, get_or};
     ghost use Rattle.dimacs_front.specs.declared.shown.Named.{Named};
-    ghost use Rattle.dimacs_front.specs.Grammar.{is_named};
+    ghost use Rattle.dimacs_front.specs.Machine.{is_named};
 
     ghost Value = { List Named };
 
@@ -62,7 +62,7 @@ impl ShowLines {
     }
 
     /// Whether a show line names the variable.
-    fn names(&self, variable: u32) -> bool
+    pub fn names(&self, variable: u32) -> bool
         ensures { result ≡ is_named self.now variable }
     {
         self.marks.get(variable as usize).copied().unwrap_or(false)
@@ -70,7 +70,7 @@ impl ShowLines {
 
     /// The line of the first show line that names a variable above this one.
     pub fn first_above(&self, variables: u32) -> Option<u64>
-        ensures { result ≡ first_above variables self.now }
+        ensures { result ≡ first_name_above variables self.now }
     {
         for name in &self.named {
             if name.variable > variables {
@@ -96,7 +96,7 @@ impl ShowLines {
         variables: u32,
     ) -> Result<Option<Items<u32>>, AllocError>
         requires { variables ≤ MOST_VARIABLES }
-        ensures { IfOk result (λ shown. shown ≡ few (shown_of given self.now variables)) }
+        ensures { IfOk result (λ shown. shown ≡ few (names_shown given self.now variables)) }
     {
         let mut shown = Vec::new(alloc);
         for variable in 1..variables + 1 {

@@ -1,4 +1,5 @@
 use super::*;
+use crate::text_rows::other_row;
 use fault_io::{BytesIn, Failed, Source};
 use std::alloc::{AllocError, Global};
 use std::test::Fail;
@@ -88,175 +89,90 @@ fn an_accepted_text_gives_its_formula_and_shown_variables(rt: HostRuntime) -> Re
     Ok(())
 }
 
-/// The place of the first text that is not refused so.
-pub(crate) fn other(
-    alloc: Global,
-    texts: &[(&[u8], TextRefused)],
-) -> Result<Option<usize>, AllocError> {
-    for (at, (text, refusal)) in texts.iter().enumerate() {
-        for step in [1, 4, 1000] {
-            if read(alloc, text, step, &[])?.err() != Some(ReadRefused::Text(*refusal)) {
-                return Ok(Some(at));
-            }
-        }
-    }
-    Ok(None)
-}
-
 #[test]
 fn a_line_that_is_wrong_is_named(rt: HostRuntime) -> Result<(), Fail> {
-    let texts: [(&[u8], TextRefused); 42] = [
-        (b"1 0\n", TextRefused::BadStart { line: 1 }),
-        (b"\x1f\x8b\x08\x00", TextRefused::BadStart { line: 1 }),
-        (b"%\n", TextRefused::BadStart { line: 1 }),
-        (b"p cnf 2\n", TextRefused::BadHeader { line: 1 }),
-        (b"p cnf -1 0\n", TextRefused::BadHeader { line: 1 }),
-        (b"p dnf 1 0\n", TextRefused::BadHeader { line: 1 }),
-        (b"p cnf 1 0 0\n", TextRefused::BadHeader { line: 1 }),
-        (
-            b"p cnf 1 0\np cnf 1 0\n",
-            TextRefused::HeaderTwice { line: 2 },
-        ),
-        (b"p cnf 1 1\n1x 0\n", TextRefused::BadNumber { line: 2 }),
-        (b"p cnf 1 1\n-0\n", TextRefused::BadNumber { line: 2 }),
-        (b"p cnf 1 1\n+1 0\n", TextRefused::BadNumber { line: 2 }),
-        (b"p cnf 1 1\nx 1 0\n", TextRefused::BadNumber { line: 2 }),
-        (
-            b"p cnf 1 1\n2 y 0\n",
-            TextRefused::VariableTooLarge { line: 2 },
-        ),
-        (
-            b"p cnf 2 1\n1 3 0\n",
-            TextRefused::VariableTooLarge { line: 2 },
-        ),
-        (
-            b"p cnf 1000001 0\n",
-            TextRefused::TooManyVariables { line: 1 },
-        ),
-        (
-            b"p cnf 1000001 4000001\n",
-            TextRefused::TooManyVariables { line: 1 },
-        ),
-        (
-            b"p cnf 1 4000001\n",
-            TextRefused::TooManyClauses { line: 1 },
-        ),
-        (
-            b"p cnf 2 0\nc p show 1 -2 0\n",
-            TextRefused::ShowBad { line: 2 },
-        ),
-        (
-            b"p cnf 2 0\nc p show 1 0 2\n",
-            TextRefused::ShowBad { line: 2 },
-        ),
-        (
-            b"p cnf 2 0\nc p show 1\n",
-            TextRefused::ShowUnended { line: 2 },
-        ),
-        (
-            b"p cnf 2 0\nc p show\n",
-            TextRefused::ShowUnended { line: 2 },
-        ),
-        (b"p cnf 1 1\nx\ny", TextRefused::BadNumber { line: 2 }),
-        (b"p\n", TextRefused::BadHeader { line: 1 }),
-        (
-            b"c\n\nproblem cnf 1 1\n",
-            TextRefused::BadHeader { line: 3 },
-        ),
-        (b"p cnf 1\n0\n", TextRefused::BadHeader { line: 1 }),
-        (b"p cnf 1 0x\n", TextRefused::BadHeader { line: 1 }),
-        (b"p cnf 1 -0\n", TextRefused::BadHeader { line: 1 }),
-        (b"c\n%\np cnf 1 0\n", TextRefused::BadStart { line: 2 }),
-        (b"\n xc\n", TextRefused::BadStart { line: 2 }),
-        (
-            b"p cnf 1 1\n1 0\n problem\n",
-            TextRefused::HeaderTwice { line: 3 },
-        ),
-        (b"p cnf 1 1\n1 0 -\n", TextRefused::BadNumber { line: 2 }),
-        (b"p cnf 1 1\n1 c 0\n", TextRefused::BadNumber { line: 2 }),
-        (b"p cnf 1 1\n1 %\n0\n", TextRefused::BadNumber { line: 2 }),
-        (
-            b"p cnf 1 1\n1 0\n\n0 -1 --1 2\n",
-            TextRefused::BadNumber { line: 4 },
-        ),
-        (
-            b"p cnf 0 1\n-1 0\n",
-            TextRefused::VariableTooLarge { line: 2 },
-        ),
-        (
-            b"p cnf 2 1\n1 0\n2 -3 x",
-            TextRefused::VariableTooLarge { line: 3 },
-        ),
-        (b"c p show x 0\n1 0\n", TextRefused::ShowBad { line: 1 }),
-        (b"c p show 1 x\n", TextRefused::ShowBad { line: 1 }),
-        (b"c p show 1 0 0\n", TextRefused::ShowBad { line: 1 }),
-        (b"c p show -0\n", TextRefused::ShowBad { line: 1 }),
-        (b"c p show 1\nc 0\n", TextRefused::ShowUnended { line: 1 }),
-        (
-            b"c p show 1\np cnf x\n",
-            TextRefused::ShowUnended { line: 1 },
-        ),
-    ];
-    assert_eq!(rt; other(rt.alloc(), &texts)?, None);
+    let rows = "\
+1 0| => BadStart 1
+%| => BadStart 1
+p cnf 2| => BadHeader 1
+p cnf -1 0| => BadHeader 1
+p dnf 1 0| => BadHeader 1
+p cnf 1 0 0| => BadHeader 1
+p cnf 1 0|p cnf 1 0| => HeaderTwice 2
+p cnf 1 1|1x 0| => BadNumber 2
+p cnf 1 1|-0| => BadNumber 2
+p cnf 1 1|+1 0| => BadNumber 2
+p cnf 1 1|x 1 0| => BadNumber 2
+p cnf 1 1|2 y 0| => VariableTooLarge 2
+p cnf 2 1|1 3 0| => VariableTooLarge 2
+p cnf 1000001 0| => TooManyVariables 1
+p cnf 1000001 4000001| => TooManyVariables 1
+p cnf 1 4000001| => TooManyClauses 1
+p cnf 2 0|c p show 1 -2 0| => ShowBad 2
+p cnf 2 0|c p show 1 0 2| => ShowBad 2
+p cnf 2 0|c p show 1| => ShowUnended 2
+p cnf 2 0|c p show| => ShowUnended 2
+p cnf 1 1|x|y => BadNumber 2
+p| => BadHeader 1
+c||problem cnf 1 1| => BadHeader 3
+p cnf 1|0| => BadHeader 1
+p cnf 1 0x| => BadHeader 1
+p cnf 1 -0| => BadHeader 1
+c|%|p cnf 1 0| => BadStart 2
+| xc| => BadStart 2
+p cnf 1 1|1 0| problem| => HeaderTwice 3
+p cnf 1 1|1 0 -| => BadNumber 2
+p cnf 1 1|1 c 0| => BadNumber 2
+p cnf 1 1|1 %|0| => BadNumber 2
+p cnf 1 1|1 0||0 -1 --1 2| => BadNumber 4
+p cnf 0 1|-1 0| => VariableTooLarge 2
+p cnf 2 1|1 0|2 -3 x => VariableTooLarge 3
+c p show x 0|1 0| => ShowBad 1
+c p show 1 x| => ShowBad 1
+c p show 1 0 0| => ShowBad 1
+c p show -0| => ShowBad 1
+c p show 1|c 0| => ShowUnended 1
+c p show 1|p cnf x| => ShowUnended 1
+p cnf 2 0|c p under 1| => UnderUnended 2
+p cnf 2 0|c p under| => UnderUnended 2
+p cnf 2 0|c p under 1 x 0| => UnderBad 2
+c p under 1 0 2|1 0| => UnderBad 1
+c p under -0| => UnderBad 1
+c p under 1000001 0| => UnderBad 1
+c p under -1000001 x| => UnderBad 1";
+    assert_eq!(rt; other_row(rt.alloc(), rows)?, None);
     Ok(())
 }
 
 #[test]
 fn a_text_whose_end_is_wrong_is_refused(rt: HostRuntime) -> Result<(), Fail> {
-    let texts: [(&[u8], TextRefused); 18] = [
-        (b"", TextRefused::NoHeader { line: 1 }),
-        (b"c only a comment\n", TextRefused::NoHeader { line: 1 }),
-        (b"p cnf 1 1\n1\n%\n0\n", TextRefused::Unfinished { line: 4 }),
-        (b"p cnf 2 2\n1 0\n2\n", TextRefused::Unfinished { line: 3 }),
-        (
-            b"p cnf 1 0\n1 0\n",
-            TextRefused::ClauseCount {
-                line: 2,
-                said: 0,
-                found: 1,
-            },
-        ),
-        (
-            b"p cnf 2 2\n1 0\n",
-            TextRefused::ClauseCount {
-                line: 2,
-                said: 2,
-                found: 1,
-            },
-        ),
-        (
-            b"c p show 3 0\np cnf 2 0\n",
-            TextRefused::ShowBad { line: 1 },
-        ),
-        (
-            b"p cnf 2 0\nc p show 1 0\nc p show 3 1 0\nc p show 4 3 0\n",
-            TextRefused::ShowBad { line: 3 },
-        ),
-        (b" ", TextRefused::NoHeader { line: 1 }),
-        (b"\n\n", TextRefused::NoHeader { line: 2 }),
-        (b"\n\nc", TextRefused::NoHeader { line: 3 }),
-        (b"c p show 1 0\n", TextRefused::NoHeader { line: 1 }),
-        (b"p cnf 1 1\n1", TextRefused::Unfinished { line: 2 }),
-        (b"p cnf 1 1\n1\n\n \n", TextRefused::Unfinished { line: 4 }),
-        (
-            b"p cnf 5000 9\nc p show 6000 0\n1\n",
-            TextRefused::Unfinished { line: 3 },
-        ),
-        (
-            b"p cnf 5000 9\nc p show 6000 0\n",
-            TextRefused::ClauseCount {
-                line: 2,
-                said: 9,
-                found: 0,
-            },
-        ),
-        (
-            b"p cnf 5 0\nc p show 5 0\nc p show 6 0\nc p show 7 0\n",
-            TextRefused::ShowBad { line: 3 },
-        ),
-        (b"p cnf 4097 0\n", TextRefused::TooManyShown { line: 1 }),
-    ];
-    assert_eq!(rt; other(rt.alloc(), &texts)?, None);
+    let rows = "\
+c only a comment| => NoHeader 1
+ => NoHeader 1
+p cnf 1 1|1|%|0| => Unfinished 4
+p cnf 2 2|1 0|2| => Unfinished 3
+p cnf 1 0|1 0| => ClauseCount 2 said 0 found 1
+p cnf 2 2|1 0| => ClauseCount 2 said 2 found 1
+c p show 3 0|p cnf 2 0| => ShowBad 1
+p cnf 2 0|c p show 1 0|c p show 3 1 0|c p show 4 3 0| => ShowBad 3
+  => NoHeader 1
+|| => NoHeader 2
+||c => NoHeader 3
+c p show 1 0| => NoHeader 1
+p cnf 1 1|1 => Unfinished 2
+p cnf 1 1|1|| | => Unfinished 4
+p cnf 5000 9|c p show 6000 0|1| => Unfinished 3
+p cnf 5000 9|c p show 6000 0| => ClauseCount 2 said 9 found 0
+p cnf 5 0|c p show 5 0|c p show 6 0|c p show 7 0| => ShowBad 3
+p cnf 8193 0| => TooManyShown 1
+p cnf 2 0|c p show 1 0|c p under 2 0| => UnderBad 3
+p cnf 2 0|c p under 1 0|c p under -1 0| => UnderBad 3
+p cnf 2 0|c p under 2 0|c p under 1 2 -1 0| => UnderBad 3
+c p under 3 0|p cnf 2 0| => UnderBad 1
+c p under 3 0|p cnf 2 0|c p show 4 0| => ShowBad 3
+c p under 3 0|p cnf 8193 0| => TooManyShown 2
+c p under 3 0|p cnf 2 1| => ClauseCount 2 said 1 found 0";
+    assert_eq!(rt; other_row(rt.alloc(), rows)?, None);
     Ok(())
 }
 
@@ -289,20 +205,51 @@ fn a_variable_that_is_named_again_counts_once(rt: HostRuntime) -> Result<(), Fai
 
 #[test]
 fn a_saved_or_a_met_text_is_not_read_yet(rt: HostRuntime) -> Result<(), Fail> {
-    let texts: [&[u8]; 9] = [
-        b"c allsat saved 2\np cnf 0 0\nc p end\n",
-        b"c allsat saved 1\np cnf 2 0\nc p show 1 0\nc p open 2 0\nc p end\n",
-        b"c allsat saved 1\np cnf 2 0\nc p open 2 1 0\nc p end\n",
-        b"c allsat saved 1\np cnf 2 0\nc p end\nc p open 0\n",
-        b"c allsat saved 1\np cnf 2 1\nc p open 0\n",
-        b"c allsat met 1\np cnf 1 0\nc p met 0 0\nc p end\n",
-        b"c allsat saved",
-        b"\tc\x0ballsat\x0csaved\rx 1\n",
-        b" c  allsat met\nx\n",
+    let rows = "\
+c allsat saved 2|p cnf 0 0|c p end| => NotBuilt 1
+c allsat saved 1|p cnf 2 0|c p show 1 0|c p open 2 0|c p end| => NotBuilt 1
+c allsat saved 1|p cnf 2 0|c p open 2 1 0|c p end| => NotBuilt 1
+c allsat saved 1|p cnf 2 0|c p end|c p open 0| => NotBuilt 1
+c allsat saved 1|p cnf 2 1|c p open 0| => NotBuilt 1
+c allsat met 1|p cnf 1 0|c p met 0 0|c p end| => NotBuilt 1
+c allsat saved => NotBuilt 1
+\tc\x0ballsat\x0csaved\rx 1| => NotBuilt 1
+ c  allsat met|x| => NotBuilt 1";
+    assert_eq!(rt; other_row(rt.alloc(), rows)?, None);
+    Ok(())
+}
+
+/// A gzip header.
+#[test]
+fn compressed_bytes_are_no_text(rt: HostRuntime) -> Result<(), Fail> {
+    for step in [1, 4, 1000] {
+        assert_eq!(rt;
+            read(rt.alloc(), b"\x1f\x8b\x08\x00", step, &[])?.err(),
+            Some(ReadRefused::Text(TextRefused::BadStart { line: 1 }))
+        );
+    }
+    Ok(())
+}
+
+#[test]
+fn the_literals_of_all_under_lines_are_one_cube(rt: HostRuntime) -> Result<(), Fail> {
+    let alloc = rt.alloc();
+    let texts: [(&[u8], &[i32]); 5] = [
+        (b"p cnf 2 1\nc p under -1 0\n1 2 0\n", &[-1]),
+        (
+            b"c p under 3 0\np cnf 3 0\nc p under -1 3 0\nc p under 0",
+            &[-1, 3],
+        ),
+        (b"c p show 2 0\nc p under -2 -02 0\np cnf 2 0\n", &[-2]),
+        (
+            b"p cnf 1 0\nc p unders 1 0\nc p under1 0\nc under 1 0\n",
+            &[],
+        ),
+        (b"p cnf 1 0\n%\nc p under 1\n", &[]),
     ];
-    for text in texts {
-        let refusals = [(text, TextRefused::NotBuilt { line: 1 })];
-        assert_eq!(rt; other(rt.alloc(), &refusals)?, None, "at {text:?}");
+    for (text, under) in texts {
+        let input = read(alloc, text, 4, &[])??;
+        assert_eq!(rt; input.subject.under.lits(), under, "at {text:?}");
     }
     Ok(())
 }
@@ -492,6 +439,8 @@ fn a_refusal_keeps_its_number_and_line(rt: HostRuntime) {
         (TextRefused::TooManyShown { line }, 14),
         (TextRefused::TextTooLong { line }, 15),
         (TextRefused::NotBuilt { line }, 20),
+        (TextRefused::UnderBad { line }, 21),
+        (TextRefused::UnderUnended { line }, 22),
     ];
     for (refusal, number) in refusals {
         assert_eq!(rt; refusal.number(), number);

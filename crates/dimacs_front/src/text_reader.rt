@@ -3,7 +3,7 @@
 ghost use Rattle.std.specs.Prelude.{◌≡◌, ◌+◌, ◌^◌, ◌<◌, ◌≤◌, false, [], length, fold, OnOk};
 ghost use Rattle.dimacs_tokens.specs.Seen.{seen};
 ghost use Rattle.dimacs_tokens.specs.Reading.{reading_at, read_byte, token_ends, text_ends};
-ghost use Rattle.dimacs_front.specs.Whole.{text_at_start, eat_token, close_line, answer};
+ghost use Rattle.dimacs_front.specs.MachineText.{text_at_start, eat_token, close_line, answer};
 ghost use Rattle.dimacs_front.specs.Pieces.{Gives};
 
 use crate::text_state::TextState;
@@ -26,7 +26,7 @@ pub struct TextReader {
 
 impl Model for TextReader {
     ghost use Rattle.dimacs_tokens.specs.Reading.{Reading, reading_at};
-    ghost use Rattle.dimacs_front.specs.Whole.{TextView, text_at};
+    ghost use Rattle.dimacs_front.specs.MachineText.{TextView, text_at};
 
     ghost Value = { Reading TextView };
 

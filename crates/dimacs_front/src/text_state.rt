@@ -1,18 +1,28 @@
 //! What the tokens of a text say so far.
-ghost use Rattle.std.specs.Prelude.{◌≡◌, OnOk, ◌<◌, nat_abs};
-ghost use Rattle.dimacs_front.specs.LinePlaces.{refusal_at};
-ghost use Rattle.dimacs_front.specs.Grammar.{nothing_said_yet, zero_eaten, literal_eaten, number_eaten, shown_eaten, below_begun, line_begun, eaten, header_ended, closed};
-ghost use Rattle.dimacs_front.specs.Ending.{end_refusal, end_of};
+ghost use Rattle.std.specs.Prelude.{◌≡◌, [], OnOk};
+ghost use Rattle.dimacs_front.specs.MachinePlaces.{refusal_at};
+ghost use Rattle.dimacs_front.specs.Machine.{nothing_said_yet, below_begun, line_begun, eaten};
+ghost use Rattle.dimacs_front.specs.Machine.{formula_begun, header_ended, closed};
+ghost use Rattle.sat_terms.specs.Subjects.{IsVariableList};
+ghost use Rattle.dimacs_front.specs.TextEnds.{first_misplaced};
+ghost use Rattle.dimacs_front.specs.MachineEnd.{end_refusal, with_under, end_of};
 ghost use Rattle.dimacs_front.specs.Pieces.{Gives};
 
-use crate::line_place::{LinePlace, natural};
+use crate::comment_line::CommentPlace;
+use crate::header_line::{HeaderPlace, natural};
+use crate::line_place::LinePlace;
 use crate::shown::ShowLines;
+use crate::under::UnderLines;
 use crate::written::Written;
-use crate::{Input, MOST_CLAUSES, MOST_LITERALS, MOST_VARIABLES, ReadRefused, TextRefused};
+use crate::{Input, MOST_CLAUSES, MOST_VARIABLES, ReadRefused, TextRefused};
 use dimacs_tokens::Seen;
-use sat_terms::Subject;
+use sat_terms::{Items, Subject};
 use std::alloc::{AllocError, Global};
 use std::marker::Model;
+
+mod number_line;
+mod show_line;
+mod under_line;
 
 /// The place in the line, whether there was a header, the formula below it, whether a show line was
 /// ended, and the variables of all show lines, each once.
@@ -24,10 +34,11 @@ pub struct TextState {
     formula: Written,
     given: bool,
     named: ShowLines,
+    under: UnderLines,
 }
 
 impl Model for TextState {
-    ghost use Rattle.dimacs_front.specs.Grammar.{StateView};
+    ghost use Rattle.dimacs_front.specs.Machine.{StateView};
 
     ghost Value = { StateView };
 
@@ -37,6 +48,7 @@ impl Model for TextState {
       formula = s.formula;
       given = s.given;
       named = s.named;
+      under = s.under;
     } };
 }
 
@@ -52,23 +64,29 @@ impl TextState {
             formula: Written::make(alloc, 0, 0),
             given: false,
             named: ShowLines::make(alloc),
+            under: UnderLines::make(alloc),
         }
     }
 
     /// Takes the next token, in this line.
-    #[tactic(auto, unfolding(crate::specs::Grammar::eaten))]
+    #[tactic(auto, unfolding(crate::specs::Machine::eaten))]
     pub fn eat(&mut self, line: u64, token: &Seen) -> Result<(), AllocError>
         ensures { OnOk result (self.new ≡ eaten line self.old token.now) }
     {
         match self.place {
-            LinePlace::Beginning => self.begin_line(line, token),
-            LinePlace::Clauses => self.eat_number(line, token.number().value()),
-            LinePlace::Show => self.eat_shown(line, natural(token.number())),
-            place => {
-                self.place = place.after(line, token);
-                Ok(())
+            LinePlace::Beginning => return self.begin_line(line, token),
+            LinePlace::Header(header) => self.place = LinePlace::Header(header.after(token)),
+            LinePlace::Numbers => return self.eat_number(line, token.number().value()),
+            LinePlace::Comment(words) => {
+                self.place = LinePlace::in_comment(line, words.after(line, token));
             }
+            LinePlace::Show => return self.eat_shown(line, natural(token.number())),
+            LinePlace::ShowEnd => self.place = LinePlace::Refused(TextRefused::ShowBad { line }),
+            LinePlace::Under => return self.eat_given(line, token.number().value()),
+            LinePlace::UnderEnd => self.place = LinePlace::Refused(TextRefused::UnderBad { line }),
+            LinePlace::Over | LinePlace::Refused(_) => {}
         }
+        Ok(())
     }
 
     /// Takes the first token of a line.
@@ -76,13 +94,13 @@ impl TextState {
         ensures { OnOk result (self.new ≡ line_begun line self.old token.now) }
     {
         if token.begins_with(b'c') {
-            self.place = LinePlace::comment_begun(token);
+            self.place = LinePlace::in_comment(line, CommentPlace::first(token));
             return Ok(());
         }
         if self.started {
             return self.begin_below(line, token);
         }
-        self.place = LinePlace::header_begun(line, token);
+        self.place = LinePlace::above_begun(line, token);
         Ok(())
     }
 
@@ -101,83 +119,30 @@ impl TextState {
         self.eat_number(line, token.number().value())
     }
 
-    /// Takes a token of a clause, by its value.
-    fn eat_number(&mut self, line: u64, value: Option<i64>) -> Result<(), AllocError>
-        ensures { OnOk result (self.new ≡ number_eaten line self.old value) }
-    {
-        match value {
-            Some(0) => self.eat_zero(line),
-            Some(literal) => self.eat_literal(line, literal),
-            None => {
-                self.place = LinePlace::Refused(TextRefused::BadNumber { line });
-                Ok(())
-            }
-        }
-    }
-
-    /// Takes the 0 of a clause.
-    fn eat_zero(&mut self, line: u64) -> Result<(), AllocError>
-        ensures { OnOk result (self.new ≡ zero_eaten line self.old) }
-    {
-        if self.formula.found() >= MOST_CLAUSES {
-            self.place = LinePlace::Refused(TextRefused::TooManyClauses { line });
-            return Ok(());
-        }
-        self.formula.end_clause()?;
-        self.place = LinePlace::Clauses;
-        Ok(())
-    }
-
-    /// Takes a literal.
-    fn eat_literal(&mut self, line: u64, literal: i64) -> Result<(), AllocError>
-        requires { 0 < nat_abs literal }
-        ensures { OnOk result (self.new ≡ literal_eaten line self.old literal) }
-    {
-        if literal.unsigned_abs() > u64::from(self.formula.variables()) {
-            self.place = LinePlace::Refused(TextRefused::VariableTooLarge { line });
-            return Ok(());
-        }
-        if self.formula.literals() >= MOST_LITERALS {
-            self.place = LinePlace::Refused(TextRefused::TooManyLiterals { line });
-            return Ok(());
-        }
-        self.formula.add_literal(literal as i32)?;
-        self.place = LinePlace::Clauses;
-        Ok(())
-    }
-
-    /// Takes a token of a show line, by its value.
-    fn eat_shown(&mut self, line: u64, variable: Option<u32>) -> Result<(), AllocError>
-        ensures { OnOk result (self.new ≡ shown_eaten line self.old variable) }
-    {
-        match variable {
-            Some(0) => {
-                self.given = true;
-                self.place = LinePlace::ShowEnd;
-            }
-            Some(variable) if variable <= MOST_VARIABLES => {
-                self.named.add(variable, line)?;
-            }
-            _ => self.place = LinePlace::Refused(TextRefused::ShowBad { line }),
-        }
-        Ok(())
-    }
-
     /// Ends this line.
-    #[tactic(auto, unfolding(crate::specs::Grammar::closed))]
+    #[tactic(auto, unfolding(crate::specs::Machine::closed))]
     pub fn close(&mut self, line: u64)
         ensures { self.new ≡ closed line self.old }
     {
-        if let LinePlace::HeaderEnd { variables, clauses } = self.place {
-            self.end_header(line, variables, clauses);
-        } else {
-            self.place = self.place.closed(line);
+        match self.place {
+            LinePlace::Header(header) => self.end_header(line, header),
+            place => self.place = place.closed(line),
+        }
+    }
+
+    /// Ends the header's line.
+    fn end_header(&mut self, line: u64, header: HeaderPlace)
+        ensures { self.new ≡ header_ended header line self.old }
+    {
+        match header {
+            HeaderPlace::End { variables, clauses } => self.begin_formula(line, variables, clauses),
+            _ => self.place = LinePlace::Refused(TextRefused::BadHeader { line }),
         }
     }
 
     /// Begins the formula below a header with these numbers.
-    fn end_header(&mut self, line: u64, variables: u32, clauses: u32)
-        ensures { self.new ≡ header_ended line self.old variables clauses }
+    fn begin_formula(&mut self, line: u64, variables: u32, clauses: u32)
+        ensures { self.new ≡ formula_begun line self.old variables clauses }
     {
         if variables > MOST_VARIABLES {
             self.place = LinePlace::Refused(TextRefused::TooManyVariables { line });
@@ -198,7 +163,7 @@ impl TextState {
     }
 
     /// The first refusal of the end, but for too many shown variables.
-    #[tactic(auto, unfolding(crate::specs::Ending::end_refusal))]
+    #[tactic(auto, unfolding(crate::specs::MachineEnd::end_refusal))]
     fn end_refusal(&self, line: u64) -> Option<TextRefused>
         ensures { result ≡ end_refusal line self.now }
     {
@@ -220,7 +185,7 @@ impl TextState {
     }
 
     /// The input of a text that ends in this line, or why it is refused.
-    #[tactic(auto, unfolding(crate::specs::Ending::end_of))]
+    #[tactic(auto, unfolding(crate::specs::MachineEnd::end_of))]
     pub fn finish(self, line: u64) -> Result<Input, ReadRefused>
         ensures { Gives (end_of line self) result }
     {
@@ -229,13 +194,29 @@ impl TextState {
         }
         let variables = self.formula.variables();
         match self.named.shown(self.alloc, self.given, variables)? {
-            Some(shown) => {
+            Some(shown) => self.with_under(shown),
+            None => Err(ReadRefused::Text(TextRefused::TooManyShown { line })),
+        }
+    }
+
+    /// The input with these shown variables, or why its given literals are refused.
+    fn with_under(self, shown: Items<u32>) -> Result<Input, ReadRefused>
+        requires { IsVariableList shown }
+        ensures { Gives (with_under self.formula self.under shown
+            (first_misplaced shown [] self.under)) result }
+    {
+        match self.under.cube(self.alloc, shown.as_slice())? {
+            Ok(under) => {
                 let formula = self.formula.into_formula();
                 Ok(Input {
-                    subject: Subject { formula, shown },
+                    subject: Subject {
+                        formula,
+                        shown,
+                        under,
+                    },
                 })
             }
-            None => Err(ReadRefused::Text(TextRefused::TooManyShown { line })),
+            Err(line) => Err(ReadRefused::Text(TextRefused::UnderBad { line })),
         }
     }
 }

@@ -2,7 +2,7 @@
 ghost use Rattle.std.specs.Prelude.{◌≡◌, ◌≤◌, ◌<◌, length, OnOk};
 ghost use Rattle.sat_terms.specs.Literals.{IsLiteral};
 ghost use Rattle.dimacs_tokens.specs.Seen.{is_nil};
-ghost use Rattle.dimacs_front.specs.Grammar.{nothing_written, clause_ended, literal_added};
+ghost use Rattle.dimacs_front.specs.Machine.{nothing_written, clause_written, literal_written};
 
 use crate::{MOST_CLAUSES, MOST_LITERALS, MOST_VARIABLES};
 use sat_terms::{Clause, Formula, Items};
@@ -25,7 +25,7 @@ impl Model for Written {
     ghost use Rattle.std.specs.Prelude.{◌≤◌, length};
     ghost use Rattle.std.specs.List.{All};
     ghost use Rattle.sat_terms.specs.Literals.{IsLiteral};
-    ghost use Rattle.dimacs_front.specs.Grammar.{WrittenView};
+    ghost use Rattle.dimacs_front.specs.Machine.{WrittenView};
     ghost use Rattle.dimacs_front.specs.Limits.{most_variables, most_clauses};
 
     ghost Value = { WrittenView };
@@ -97,7 +97,7 @@ impl Written {
     /// Ends the clause.
     pub fn end_clause(&mut self) -> Result<(), AllocError>
         requires { length self.old.clauses < MOST_CLAUSES }
-        ensures { OnOk result (self.new ≡ clause_ended self.old) }
+        ensures { OnOk result (self.new ≡ clause_written self.old) }
     {
         let clause = Clause::from_lits(self.alloc, &self.open_clause)?;
         self.clauses.push(clause)?;
@@ -109,7 +109,7 @@ impl Written {
     pub fn add_literal(&mut self, literal: i32) -> Result<(), AllocError>
         requires literal { IsLiteral literal }
         requires room { self.old.literals < MOST_LITERALS }
-        ensures { OnOk result (self.new ≡ literal_added self.old literal) }
+        ensures { OnOk result (self.new ≡ literal_written self.old literal) }
     {
         self.open_clause.push(literal)?;
         self.literals += 1;

@@ -1,4 +1,4 @@
-use Rattle.dimacs_front.proofs.PassedLines.{percent_line}
+use Rattle.dimacs_front.proofs.LawSteps.{percent_line}
 use Rattle.dimacs_front.proofs.text_laws.the_formula_ends_at_a_percent.Goals as goal
 
 pub returns : goal.returns

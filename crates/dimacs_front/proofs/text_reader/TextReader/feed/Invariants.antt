@@ -1,6 +1,6 @@
 use Rattle.std.proofs.Common.{◌≡◌, ◌+◌, ◌≤◌, take, fold}
 use Rattle.dimacs_tokens.specs.Reading.{read_byte}
-use Rattle.dimacs_front.specs.Whole.{eat_token, close_line}
+use Rattle.dimacs_front.specs.MachineText.{eat_token, close_line}
 use Rattle.dimacs_front.proofs.text_reader.TextReader.feed.Given as goal
 
 abbrev pub invariant-loop-byte : goal.invariant-loop-byte
