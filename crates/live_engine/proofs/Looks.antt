@@ -22,8 +22,6 @@ use Rattle.chrono_trail.specs.Pictures.{pictured, picture_of}
 use Rattle.chrono_trail.proofs.Clauses.{false_from_other}
 use Rattle.chrono_trail.proofs.Items.{none_is}
 use Rattle.chrono_trail.proofs.Pictures.{is_assigned-picture}
-use Rattle.live_engine.specs.declared.deciding.Reached.{Reached}
-use Rattle.live_engine.specs.Walks.{HasReached, AreSetUpto}
 
 -- what follows from what holds of each
 pub all_tests : {X : Type 0} (P : X → Type 0) (test : X → Bool) → ((x : X) → P x → test x ≡ true) → (xs : List X) → All P xs →
@@ -52,32 +50,6 @@ pub steady_distinct : (f clauses : List (List ℤ)) (shown : ℕ → Bool) (item
 steady_distinct f clauses shown items s =
     distinct_over f clauses shown items [] (subst (Steady f shown) (sym (append-nil (picture_of clauses items))) s)
 
--- there is an item, and it passes the test
-abbrev pub passes : (Item → Bool) → Option Item → Bool
-passes test None = false
-passes test (Some i) = test i
-
--- a test that only items of one variable pass
-pub any_item : (test : Item → Bool) (v : ℕ) → ((i : Item) → test i ≡ true → nat_abs i.lit ≡ v) →
-    (items : List Item) → are_distinct items ≡ true → list_any test items ≡ passes test (item_of items v)
-any_item test v only [] d = refl
-any_item test v only (i ∷ later) d =
-    let (alone, apart) = and_parts (is_none (item_of later (nat_abs i.lit))) (are_distinct later) d in
-    let rest = any_item test v only later apart in
-    elim (cases_Bool (nat_eq v (nat_abs i.lit))) [
-      | inl same ↦
-          let none = ap (item_of later) (eqb-true v (nat_abs i.lit) same) ∙ none_is (item_of later (nat_abs i.lit)) alone in
-          rw same (ap (λ b. test i || b) (rest ∙ ap (passes test) none) ∙ or_none (test i))
-      | inr other ↦
-          let wrong : test i ≡ false =
-          false_from_ne_true (test i) (λ h. both_ways (nat_eq v (nat_abs i.lit)) other (eq-eqb v (nat_abs i.lit) (sym (only i h)))) in
-          rw (other, wrong) rest
-    ]
-  where
-    or_none : (b : Bool) → (b || false) ≡ b
-    or_none true = refl
-    or_none false = refl
-
 -- the literal that an item gives to the cube of a level
 abbrev pub literal_upto : ℕ → Option Item → Option ℤ
 literal_upto b None = None
@@ -93,45 +65,6 @@ picked_item f b (i ∷ later) v d =
     (is_assigned-picture f (nat_abs i.lit) later ∙ ap is_some none)
     ∙ ap (λ o. cond (nat_eq v (nat_abs i.lit)) (cond (nat_le i.level b) (Some i.lit) None) o) (picked_item f b later v apart)
     ∙ elim (cases_Bool (nat_eq v (nat_abs i.lit))) [ inl same ↦ rw same refl | inr other ↦ rw other refl ]
-
--- a variable that is set stays so while items join, and so does what the walk for a free one has passed
-set_stays : (old added : List Item) (v : ℕ) → is_some (item_of old v) ≡ true → is_some (item_of (old ++ added) v) ≡ true
-set_stays old added v h = ap is_some (find-append (λ i. nat_eq v (nat_abs i.lit)) old added) ∙ first (item_of old v) h
-  where
-    first : (o : Option Item) → is_some o ≡ true → is_some (option_or o (item_of added v)) ≡ true
-    first None g = cc
-    first (Some i) g = refl
-
-pub reached_stays : (old added : List Item) (p : List ℕ) (reached : Reached) → HasReached old p reached →
-    HasReached (old ++ added) p reached
-reached_stays old added p reached h = record {
-  shown = all_weaker (λ v. is_some (item_of old v)) (λ v. is_some (item_of (old ++ added) v)) (set_stays old added)
-      (take reached.shown p) h.shown;
-  variables = λ v low high. set_stays old added v (h.variables v low high);
-}
-
--- ---- where each variable is set and no clause is false, each clause has a true literal
-
-module _ (items : List Item) (n : ℕ) (distinct : are_distinct items ≡ true) (set : AreSetUpto items n) where
-  true_literal : (l : ℤ) → IsLiteralOf n l → is_false items l ≡ false → is_true items l ≡ true
-  true_literal l named off =
-      any_item (λ i. int_eq l i.lit) (nat_abs l) (λ i same. ap nat_abs (sym (int_eq-true l i.lit same))) items distinct
-      ∙ at_item (item_of items (nat_abs l)) refl (set (nat_abs l) named.0 named.1)
-    where
-      at_item : (o : Option Item) → item_of items (nat_abs l) ≡ o → is_some o ≡ true → passes (λ i. int_eq l i.lit) o ≡ true
-      at_item None e some = cc
-      at_item (Some i) e some = elim (cases_Bool (int_eq l i.lit)) [
-        | inl same ↦ same
-        | inr other ↦ absurd (both_ways (is_false items l) off (false_from_other items l i e
-            (λ same. both_ways (int_eq l i.lit) other (ap (int_eq l) same ∙ int_eq-same l))))
-      ]
-
-  pub true_clause : (c : List ℤ) → All (IsLiteralOf n) c → list_all (is_false items) c ≡ false → list_any (is_true items) c ≡ true
-  true_clause [] named off = sym off
-  true_clause (l ∷ c) named off = elim (and_cases (is_false items l) (list_all (is_false items) c) off) [
-    | inl here ↦ or_left (is_true items l) (list_any (is_true items) c) (true_literal l (All-head (IsLiteralOf n) l c named) here)
-    | inr rest ↦ or_right (is_true items l) (list_any (is_true items) c) (true_clause c (All-tail (IsLiteralOf n) l c named) rest)
-  ]
 
 -- ---- walks over variables
 

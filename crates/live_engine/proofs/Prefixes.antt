@@ -64,7 +64,7 @@ pub assumed_untried : (p : List ℕ) (base : ℕ) (q : List ℤ) (trail : List p
 assumed_untried p base [] trail h = h
 assumed_untried p base (l ∷ q) trail h = assumed_untried p base q (assumed l ∷ trail) h
 
-among_named : (n : ℕ) (p : List ℕ) → All (λ v. (0 < v) × (v ≤ n)) p → (v : ℕ) → is_among p v ≡ true → (0 < v) × (v ≤ n)
+pub among_named : (n : ℕ) (p : List ℕ) → All (λ v. (0 < v) × (v ≤ n)) p → (v : ℕ) → is_among p v ≡ true → (0 < v) × (v ≤ n)
 among_named n [] named v h = cc
 among_named n (u ∷ p) named v h = elim (or_cases (nat_eq v u) (is_among p v) h) [
   | inl here ↦ subst (λ x. (0 < x) × (x ≤ n)) (sym (eqb-true v u here)) (All-head (λ v. (0 < v) × (v ≤ n)) u p named)

@@ -1,5 +1,5 @@
 -- A search is made, and a job of it begins.
-use Rattle.std.proofs.Common.{◌≡◌, ℕ, ◌+◌, ◌<◌, ◌≤◌, ◌^◌, List, [], length, map, refl, sym, ap, subst, ◌∙◌, arith, All, Vec, Global, ℤ}
+use Rattle.std.proofs.Common.{Bool, false, take, ◌≡◌, ℕ, ◌+◌, ◌<◌, ◌≤◌, ◌^◌, List, [], length, map, refl, sym, ap, subst, ◌∙◌, arith, All, Vec, Global, ℤ}
 use Rattle.std.proofs.lemmas.List.{take_all, length-map}
 use Rattle.std.proofs.lemmas.List.Elements.{All-nil}
 use Rattle.sat_terms.specs.Literals.{IsLiteralOf}
@@ -16,90 +16,145 @@ use Rattle.clause_arena.specs.Clauses.{Clauses}
 use Rattle.clause_arena.specs.Once.{once}
 use Rattle.chrono_trail.specs.Trails.{TrailView, IsTrail}
 use Rattle.chrono_trail.specs.Pictures.{picture_of}
+use Rattle.chrono_trail.specs.Reasons.{AreReasoned}
+use Rattle.projected_decide.specs.Orders.{OrderView, order_of}
+use Rattle.implicant_shrink.specs.Shrinking.{ShrinkerView, IsFor}
 use Rattle.propagation.specs.Settled.{PropagatorView, Watches}
 use Rattle.propagation.proofs.Settled.{settled_unseen, settled_clear}
-use Rattle.live_engine.specs.declared.deciding.Reached.{Reached}
 use Rattle.live_engine.specs.declared.search.Search.{Search}
-use Rattle.live_engine.specs.Searching.{formula_of, count_of, IsGround}
-use Rattle.live_engine.specs.Starts.{Begins}
+use Rattle.live_engine.specs.Searching.{formula_of, count_of, IsGround, TellsShown}
+use Rattle.live_engine.specs.Starts.{IsOf, Begins}
+use Rattle.live_engine.proofs.Grounds.{ground_with, ground_valued}
 use Rattle.live_engine.proofs.Prefixes.{assumed_depth}
 
 -- the search that is made
-abbrev pub made : ℕ → Clauses → PropagatorView → TrailView → Reached → Vec ℕ Global → List ℤ → Vec ℕ Global → Vec (List ℤ) Global → Search
-made variables arena propagator trail reached shown prefix counts found = record {
+abbrev pub made : ℕ → Clauses → PropagatorView → TrailView → OrderView → ℕ → ℕ → ShrinkerView → Vec ℕ Global → Vec Bool Global → List ℤ → Vec ℕ Global → Vec Bool Global → Vec (List ℤ) Global → Search
+made variables arena propagator trail order analyser most shrinker shown is_shown prefix counts values found = record {
   variables = variables;
   arena = arena;
   propagator = propagator;
   trail = trail;
-  reached = reached;
+  order = order;
+  analyser = analyser;
+  most_lemmas = most;
+  shrinker = shrinker;
   shown = shown;
+  is_shown = is_shown;
   prefix = prefix;
   base = 0;
   counts = counts;
   leaves = 0;
+  values = values;
+  has_model = false;
+  copied = 0;
+  sent = 0;
   found = found;
 }
 
-pub made_ground : (s : Subject) (arena : Clauses) (propagator : PropagatorView) (trail : TrailView) (reached : Reached) (shown : Vec ℕ Global) (prefix : List ℤ) (counts : Vec ℕ Global) (found : Vec (List ℤ) Global) →
-    IsSubject s.formula.variables s.formula.clauses s.shown → arena.clauses ≡ map once s.formula.clauses → arena.base ≡ length s.formula.clauses →
-    All (All (IsLiteralOf s.formula.variables)) arena.clauses → propagator.variables ≡ s.formula.variables → Watches arena.clauses propagator →
-    trail.variables ≡ s.formula.variables → trail.items ≡ [] → trail.level ≡ 0 → trail.seen ≡ 0 → shown.items ≡ s.shown → prefix ≡ [] →
-    length counts.items ≡ s.formula.variables + 1 → found.items ≡ [] →
-    IsGround (made s.formula.variables arena propagator trail reached shown prefix counts found)
-made_ground s arena propagator trail reached shown prefix counts found subject clauses base named own watches variables items level seen same empty counted none =
+-- what the parts of it are
+pub record ArePartsOf (s : Subject) (arena : Clauses) (propagator : PropagatorView) (trail : TrailView) (order : OrderView) (analyser : ℕ) (shrinker : ShrinkerView) (shown : Vec ℕ Global) (is_shown : Vec Bool Global) (prefix : List ℤ) (counts : Vec ℕ Global) (values : Vec Bool Global) (found : Vec (List ℤ) Global) : Type 0 where
+  pub clauses : arena.clauses ≡ map once s.formula.clauses
+  pub base : arena.base ≡ length s.formula.clauses
+  pub named : All (All (IsLiteralOf s.formula.variables)) arena.clauses
+  pub own : propagator.variables ≡ s.formula.variables
+  pub known : propagator.known ≡ length arena.clauses
+  pub places : propagator.places ≡ length arena.clauses
+  pub watches : Watches arena.clauses propagator
+  pub variables : trail.variables ≡ s.formula.variables
+  pub items : trail.items ≡ []
+  pub level : trail.level ≡ 0
+  pub seen : trail.seen ≡ 0
+  pub ordered : order.variables ≡ s.formula.variables
+  pub is_order : order.order ≡ order_of s.formula.variables s.shown
+  pub is_analyser : analyser ≡ s.formula.variables
+  pub is_shrinker : IsFor (take arena.base arena.clauses) shrinker
+  pub shows : shown.items ≡ s.shown
+  pub table : TellsShown s.formula.variables s.shown is_shown.items
+  pub is_prefix : prefix ≡ []
+  pub counted : length counts.items ≡ s.formula.variables + 1
+  pub valued : length values.items ≡ s.formula.variables + 1
+  pub is_found : found.items ≡ []
+
+pub made_ground : (s : Subject) (arena : Clauses) (propagator : PropagatorView) (trail : TrailView) (order : OrderView) (analyser : ℕ) (most : ℕ) (shrinker : ShrinkerView) (shown : Vec ℕ Global) (is_shown : Vec Bool Global) (prefix : List ℤ) (counts : Vec ℕ Global) (values : Vec Bool Global) (found : Vec (List ℤ) Global) →
+    IsSubject s.formula.variables s.formula.clauses s.shown s.under → ArePartsOf s arena propagator trail order analyser shrinker shown is_shown prefix counts values found →
+    IsGround (made s.formula.variables arena propagator trail order analyser most shrinker shown is_shown prefix counts values found)
+made_ground s arena propagator trail order analyser most shrinker shown is_shown prefix counts values found subject parts =
     let few = subject.formula.variables in
-    let count = ap length clauses ∙ length-map s.formula.clauses once in
+    let variables = parts.variables in
+    let base = parts.base in
+    let places = parts.places in
+    let count = ap length parts.clauses ∙ length-map s.formula.clauses once in
     record {
       small = (let low : s.formula.variables < 2 ^ 31 = omega arith in low);
-      trail = variables;
+      trail = parts.variables;
       stands = record {
         small = (let low : trail.variables < 2 ^ 31 = omega arith in low);
-        within = rw items refl;
-        distinct = rw items refl;
-        stands = rw items refl;
-        current = rw (items, level) refl;
+        within = rw parts.items refl;
+        distinct = rw parts.items refl;
+        stands = rw parts.items refl;
+        current = rw (parts.items, parts.level) refl;
       };
-      propagator = own;
-      shown = rw same subject.shown;
+      propagator = parts.own;
+      shown = rw parts.shows subject.shown;
+      table = rw parts.shows parts.table;
+      ordered = parts.ordered;
+      order = rw parts.shows parts.is_order;
+      shrinker = parts.is_shrinker;
+      analyser = parts.is_analyser;
       based = omega arith;
-      named = named;
+      named = parts.named;
       follow = subst (λ f. All (Follows f) arena.clauses) (sym (take_all arena.base arena.clauses (omega arith))) (λ k d inside. clause_follows arena.clauses k d inside);
-      settled = settled_unseen arena.clauses propagator trail watches seen;
-      counted = counted;
+      known = parts.known;
+      places = omega arith;
+      settled = settled_unseen arena.clauses propagator trail parts.watches parts.seen;
+      reasoned = rw parts.items tt;
+      counted = parts.counted;
+      valued = parts.valued;
       capped = (let low : 0 ≤ 2 ^ 62 = omega arith in low);
-      prefix = rw empty (record { rising = refl; over = refl });
-      cubes = rw none (All-nil (IsCube shown.items));
+      prefix = rw parts.is_prefix (record { rising = refl; over = refl });
+      cubes = rw parts.is_found (All-nil (IsCube shown.items));
     }
 
-pub begun : (old : Search) (trail : TrailView) (reached : Reached) (q : List ℤ) → IsGround old → IsCube old.shown.items q → old.found.items ≡ [] →
-    ((f : List (List ℤ)) → picture_of f trail.items ≡ assume_all q []) → trail.level ≡ 0 → trail.variables ≡ old.trail.variables → trail.seen ≡ 0 →
-    IsTrail trail.variables trail.items trail.level → reached.shown ≡ 0 → reached.variable ≡ 0 →
-    Begins old (record old { trail = trail; reached = reached; prefix = q; base = 0; leaves = 0 }) q
-begun old trail reached q h cube none items level variables seen stands shown_again again = record {
+pub made_of : (s : Subject) (arena : Clauses) (propagator : PropagatorView) (trail : TrailView) (order : OrderView) (analyser : ℕ) (most : ℕ) (shrinker : ShrinkerView) (shown : Vec ℕ Global) (is_shown : Vec Bool Global) (prefix : List ℤ) (counts : Vec ℕ Global) (values : Vec Bool Global) (found : Vec (List ℤ) Global) →
+    ArePartsOf s arena propagator trail order analyser shrinker shown is_shown prefix counts values found →
+    IsOf s (made s.formula.variables arena propagator trail order analyser most shrinker shown is_shown prefix counts values found)
+made_of s arena propagator trail order analyser most shrinker shown is_shown prefix counts values found parts =
+    let base = parts.base in
+    let count = ap length parts.clauses ∙ length-map s.formula.clauses once in
+    record {
+      variables = refl;
+      formula = take_all arena.base arena.clauses (omega arith) ∙ parts.clauses;
+      shown = parts.shows;
+    }
+
+pub begun : (old : Search) (trail : TrailView) (order : OrderView) (q : List ℤ) → IsGround old → IsCube old.shown.items q → old.found.items ≡ [] →
+    ((f : List (List ℤ)) → picture_of f trail.items ≡ assume_all q []) → ((f : List (List ℤ)) → AreReasoned f trail.items) →
+    trail.level ≡ 0 → trail.variables ≡ old.trail.variables → trail.seen ≡ 0 →
+    IsTrail trail.variables trail.items trail.level → order ≡ record old.order { from = 0 } →
+    Begins old (record old { trail = trail; order = order; copied = 0; prefix = q; base = 0; leaves = 0 }) q
+begun old trail order q h cube none items reasoned level variables seen stands again = record {
   searching = record {
-    ground = record {
-      small = h.small;
-      trail = variables ∙ h.trail;
-      stands = stands;
-      propagator = h.propagator;
-      shown = h.shown;
-      based = h.based;
-      named = h.named;
-      follow = h.follow;
-      settled = settled_clear old.arena.clauses old.propagator old.trail trail h.settled seen;
-      counted = h.counted;
-      capped = (let low : 0 ≤ 2 ^ 62 = omega arith in low);
-      prefix = cube;
-      cubes = h.cubes;
-    };
+    ground = ground_valued (record old { trail = trail; order = order; prefix = q; base = 0; leaves = 0 }) (ground_with old h old.arena old.propagator trail order old.shrinker q 0 old.counts 0 old.found
+        (record {
+          base = h.based;
+          formula = refl;
+          named = h.named;
+          follow = h.follow;
+          known = h.known;
+          places = h.places;
+          settled = settled_clear old.arena.clauses old.propagator old.trail trail h.settled seen;
+          reasoned = reasoned old.arena.clauses;
+          variables = variables;
+          stands = stands;
+          own = refl;
+        })
+        (ap (λ (o : OrderView). o.variables) again) (ap (λ (o : OrderView). o.order) again) h.shrinker cube refl (let low : 0 ≤ 2 ^ 62 = omega arith in low) h.cubes) old.values old.has_model 0 refl;
     working = subst (λ xs. Working (formula_of old) (is_among old.shown.items) (length old.shown.items) 0 (count_of old) q (picture_of old.arena.clauses trail.items) xs 0) (sym none)
         (subst (λ t. Working (formula_of old) (is_among old.shown.items) (length old.shown.items) 0 (count_of old) q t [] 0) (sym (items old.arena.clauses))
         (begin_works (formula_of old) (is_among old.shown.items) (length old.shown.items) (count_of old) q cube.rising cube.over));
     current = level ∙ sym (ap picture.depth (items old.arena.clauses) ∙ assumed_depth q []);
-    reached = record {
-      shown = rw shown_again refl;
-      variables = λ v low high. (absurd (omega arith));
-    };
+    passed = rw again refl;
+    copied = record { within = omega arith; same = refl };
   };
   trail = items old.arena.clauses;
   prefix = refl;
@@ -109,4 +164,6 @@ begun old trail reached q h cube none items level variables seen stands shown_ag
   arena = refl;
   shown = refl;
   found = refl;
+  values = refl;
+  has_model = refl;
 }

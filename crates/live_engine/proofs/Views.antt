@@ -1,11 +1,12 @@
 -- What the engine's callers see of a search.
-use Rattle.std.proofs.Common.{◌≡◌, ℕ, ◌<◌, ◌≤◌, Bool, ◌&&◌, nat_lt, ℤ, neg_ℤ, List, [], ◌∷◌, ◌++◌, length, get_or, map, Some, None, refl, sym, ap, subst, subst₂, ◌∙◌, inl, inr, arith, All, Vec, Global, length-append}
+use Rattle.std.proofs.Common.{cond, ◌||◌, true, ◌≡◌, ℕ, ◌+◌, ◌<◌, ◌≤◌, Bool, ◌&&◌, nat_lt, ℤ, neg_ℤ, List, [], ◌∷◌, ◌++◌, length, get_or, map, Some, None, refl, sym, ap, subst, subst₂, ◌∙◌, inl, inr, arith, All, Vec, Global, length-append}
 use Rattle.std.proofs.lemmas.Bool.{and_parts, cases_Bool}
 use Rattle.std.proofs.lemmas.List.Elements.{All-nil, All-weaker}
 use Rattle.std.specs.List.Sorted.{IsStrictlyIncreasing}
 use Rattle.sat_terms.specs.declared.subject.Subject.{Subject}
 use Rattle.sat_terms.specs.Assignments.{IsGood}
 use Rattle.sat_terms.specs.Cubes.{IsCube, is_among}
+use Rattle.sat_terms.specs.Subjects.{IsShown}
 use Rattle.search_region.specs.Trail as picture
 use Rattle.search_region.specs.Steady.{Steady}
 use Rattle.search_region.specs.Region.{front, untried, left_open, is_open}
@@ -31,9 +32,22 @@ use Rattle.live_engine.specs.declared.search.Phase.TheVariants.{Idle, Running, O
 use Rattle.live_engine.specs.Searching as searching
 use Rattle.live_engine.specs.Searching.{formula_of, pictured_trail, count_of, IsGround, IsSearching, IsClosed, IsSameJob}
 use Rattle.live_engine.specs.Starts.{IsOf, Begins}
-use Rattle.live_engine.specs.Steps.{ComesToLeaf, ComesToLast}
-use Rattle.live_engine.specs.Engines.{IsEngine, IsInPhase, job_of, open_weight, view_of, HasStarted, Leafs, FitsJob}
+use Rattle.std.specs.List.{list_any, list_all}
+use Rattle.std.proofs.lemmas.Bool.{and_from, or_cases, or_left, or_right}
+use Rattle.sat_terms.specs.Cubes.{has_literal, has_pair}
+use Rattle.search_job.specs.Reasons.{assume_all}
+use Rattle.clause_arena.proofs.Meaning.{once_keeps_pairs}
+use Rattle.clause_arena.proofs.Literals.{has_literal-once}
+use Rattle.implicant_shrink.specs.Levels.{marked}
+use Rattle.live_engine.specs.Values.{hidden_literals, IsImplicant}
+use Rattle.live_engine.specs.Searching.{model_of}
+use Rattle.live_engine.proofs.Fronts.{assumed_front, any_among}
+use Rattle.live_engine.specs.Steps.{ComesToLeaf, ComesToLast, HasFound, FindsIn}
+use Rattle.live_engine.specs.Engines.{IsEngine, IsInPhase, job_of, open_weight, view_of, HasStarted, Learns, Leafs, FitsJob}
+use Rattle.live_engine.proofs.Grounds.{ground_with, same_stands, formula_same}
+use Rattle.clause_arena.specs.Clauses.{Clauses}
 use Rattle.live_engine.proofs.Prefixes.{assumed_untried}
+use Rattle.live_engine.proofs.Sent.{learns, skipped, searching_sent}
 
 -- ---- what is untried, as cubes
 
@@ -147,18 +161,45 @@ module _ (subject : Subject) (s : Search) (of : IsOf subject s) where
       (same_some s.prefix r told) (fits_closed h)
 
 -- a job that is the same is one of the same subject
-pub of_same : (subject : Subject) (old new : Search) → IsOf subject old → IsSameJob old new → IsOf subject new
-of_same subject old new of same = record {
+pub of_same : (subject : Subject) (old new : Search) → IsOf subject old → old.arena.base ≤ length old.arena.clauses → IsSameJob old new → IsOf subject new
+of_same subject old new of based same = record {
   variables = same.variables ∙ of.variables;
-  formula = ap (λ a. formula_of (record old { arena = a })) same.arena ∙ of.formula;
+  formula = formula_same old new based same ∙ of.formula;
   shown = ap (λ v. v.items) same.shown ∙ of.shown;
 }
 
+-- ---- clauses once, and as they were said
+
+implicant_once : (f : List (List ℤ)) (c w : List ℤ) → IsImplicant (map once f) c w → IsImplicant f c w
+implicant_once [] c w h = h
+implicant_once (d ∷ f) c w h =
+    let either : ℤ → Bool = λ l. has_literal c l || has_literal w l in
+    let (now, rest) = and_parts (has_pair (once d) || list_any (λ l. has_literal c l || has_literal w l) (once d)) (list_all (λ e. has_pair e || list_any (λ l. has_literal c l || has_literal w l) e) (map once f)) h in
+    and_from (has_pair d || list_any (λ l. has_literal c l || has_literal w l) d) (list_all (λ e. has_pair e || list_any (λ l. has_literal c l || has_literal w l) e) f)
+    (subst (λ b. (b || list_any (λ l. has_literal c l || has_literal w l) d) ≡ true) (once_keeps_pairs d)
+    (elim (or_cases (has_pair (once d)) (list_any (λ l. has_literal c l || has_literal w l) (once d)) now) [
+      | inl pair ↦ or_left (has_pair (once d)) (list_any (λ l. has_literal c l || has_literal w l) d) pair
+      | inr some ↦ or_right (has_pair (once d)) (list_any (λ l. has_literal c l || has_literal w l) d)
+          (any_among (λ l. has_literal c l || has_literal w l) (once d) d (λ l there. sym (has_literal-once d l) ∙ there) some)
+    ])) (implicant_once f c w rest)
+
 -- ---- a leaf
 
-module _ (subject : Subject) (s : Search) (of : IsOf subject s) (h : IsSearching s) (found : Vec (List ℤ) Global) (same : found.items ≡ s.found.items) (new : Search) where
+module _ (subject : Subject) (s : Search) (of : IsOf subject s) (h : IsSearching s) (found : Vec (List ℤ) Global) (same : found.items ≡ s.found.items) (within : s.arena.base + s.sent ≤ length s.arena.clauses) (new : Search) where
   pub of_leaf : IsSameJob (record s { found = found }) new → IsOf subject new
-  of_leaf job = of_same subject (record s { found = found }) new (record { variables = of.variables; formula = of.formula; shown = of.shown }) job
+  of_leaf job = of_same subject (record s { found = found }) new (record { variables = of.variables; formula = of.formula; shown = of.shown }) h.ground.based job
+
+  job_from : IsSameJob (record s { found = found }) new → IsSameJob s new
+  job_from job = record {
+    variables = job.variables;
+    formula = job.formula;
+    more = job.more;
+    clauses = job.clauses;
+    shown = job.shown;
+    prefix = job.prefix;
+    base = job.base;
+    sent = job.sent;
+  }
 
   goes : (leaf : Leaf) → ComesToLeaf (record s { found = found }) new leaf → open_weight (view_of subject new Running) < open_weight (view_of subject s Running)
   goes leaf comes =
@@ -167,25 +208,6 @@ module _ (subject : Subject) (s : Search) (of : IsOf subject s) (h : IsSearching
       let less = comes.less in
       let goal_is : open_weight (view_of subject new Running) < open_weight (view_of subject s Running) = omega arith in goal_is
 
-  pub leaf_goes : (leaf : Leaf) → ComesToLeaf (record s { found = found }) new leaf → Leafs (view_of subject s Running) (view_of subject new Running) leaf
-  leaf_goes Found comes = record {
-    some = λ e. cc;
-    subject = refl;
-    job = ap Some comes.job.prefix;
-    found = (comes.found.0, comes.found.1 ∙ ap (λ xs. xs ++ comes.found.0 ∷ []) same);
-    leaves = comes.leaves;
-    less = goes Found comes;
-  }
-  leaf_goes Dead comes = record {
-    some = λ e. cc;
-    subject = refl;
-    job = ap Some comes.job.prefix;
-    found = comes.found ∙ same;
-    leaves = comes.leaves;
-    less = goes Dead comes;
-  }
-  leaf_goes Ended comes = absurd comes.found
-
   ends : open_weight (view_of subject new Over) < open_weight (view_of subject s Running)
   ends =
       let n = length subject.shown in
@@ -193,38 +215,72 @@ module _ (subject : Subject) (s : Search) (of : IsOf subject s) (h : IsSearching
       let some = weight_some n (front_cube (pictured_trail s) s.shown.items) in
       let goal_is : open_weight (view_of subject new Over) < open_weight (view_of subject s Running) = omega arith in goal_is
 
+  -- what was found, over the subject
+  finds : (leaf : Leaf) → FindsIn (record s { found = found }) new leaf →
+      HasFound subject.formula.clauses subject.formula.variables subject.shown leaf s.found.items new.found.items (model_of s) (model_of new)
+  finds leaf h =
+      over leaf (subst₂ (λ n p. HasFound (formula_of s) n p leaf s.found.items new.found.items (model_of s) (model_of new)) of.variables of.shown
+      (subst (λ xs. HasFound (formula_of s) s.variables s.shown.items leaf xs new.found.items (model_of s) (model_of new)) same h))
+    where
+      over : (l : Leaf) → HasFound (formula_of s) subject.formula.variables subject.shown l s.found.items new.found.items (model_of s) (model_of new) →
+          HasFound subject.formula.clauses subject.formula.variables subject.shown l s.found.items new.found.items (model_of s) (model_of new)
+      over Found k = record {
+        cube = k.cube;
+        found = k.found;
+        values = k.values;
+        hidden = k.hidden;
+        implicant = implicant_once subject.formula.clauses k.cube (hidden_literals subject.formula.variables subject.shown k.values)
+            (subst (λ g. IsImplicant g k.cube (hidden_literals subject.formula.variables subject.shown k.values)) of.formula k.implicant);
+      }
+      over Dead k = k
+      over Ended k = k
+
+  pub leaf_goes : (leaf : Leaf) → ComesToLeaf (record s { found = found }) new leaf → Leafs (view_of subject s Running) (view_of subject new Running) leaf
+  leaf_goes leaf comes = by_leaf leaf (goes leaf comes) (finds leaf comes.found)
+    where
+      taught : Learns (view_of subject s Running) (view_of subject new Running)
+      taught = learns subject s new Running Running (of_leaf comes.job) comes.searching.ground (job_from comes.job) within
+
+      by_leaf : (l : Leaf) → open_weight (view_of subject new Running) < open_weight (view_of subject s Running) →
+          HasFound subject.formula.clauses subject.formula.variables subject.shown l s.found.items new.found.items (model_of s) (model_of new) →
+          Leafs (view_of subject s Running) (view_of subject new Running) l
+      by_leaf Found less found = record { some = λ e. cc; subject = refl; job = ap Some comes.job.prefix; found = found; leaves = comes.leaves; less = less; learns = taught }
+      by_leaf Dead less found = record { some = λ e. cc; subject = refl; job = ap Some comes.job.prefix; found = found; leaves = comes.leaves; less = less; learns = taught }
+      by_leaf Ended less found = absurd found
+
   pub leaf_last : (leaf : Leaf) → ComesToLast (record s { found = found }) new leaf → Leafs (view_of subject s Running) (view_of subject new Over) leaf
-  leaf_last Found comes = record {
-    some = λ e. cc;
-    subject = refl;
-    job = ap Some comes.job.prefix;
-    found = (comes.found.0, comes.found.1 ∙ ap (λ xs. xs ++ comes.found.0 ∷ []) same);
-    leaves = comes.leaves;
-    less = ends;
-  }
-  leaf_last Dead comes = record {
-    some = λ e. cc;
-    subject = refl;
-    job = ap Some comes.job.prefix;
-    found = comes.found ∙ same;
-    leaves = comes.leaves;
-    less = ends;
-  }
-  leaf_last Ended comes = absurd comes.found
+  leaf_last leaf comes = by_leaf leaf (finds leaf comes.found)
+    where
+      taught : Learns (view_of subject s Running) (view_of subject new Over)
+      taught = learns subject s new Running Over (of_leaf comes.job) comes.closed.ground (job_from comes.job) within
+
+      by_leaf : (l : Leaf) → HasFound subject.formula.clauses subject.formula.variables subject.shown l s.found.items new.found.items (model_of s) (model_of new) →
+          Leafs (view_of subject s Running) (view_of subject new Over) l
+      by_leaf Found found = record { some = λ e. cc; subject = refl; job = ap Some comes.job.prefix; found = found; leaves = comes.leaves; less = ends; learns = taught }
+      by_leaf Dead found = record { some = λ e. cc; subject = refl; job = ap Some comes.job.prefix; found = found; leaves = comes.leaves; less = ends; learns = taught }
+      by_leaf Ended found = absurd found
 
 -- ---- a start
 
-pub starts : (subject : Subject) (old new : Search) (q : List ℤ) → IsOf subject old → old.found.items ≡ [] → Begins old new q →
-    HasStarted (view_of subject old Idle) (view_of subject new Running) q
-starts subject old new q of none b = record {
+pub starts : (subject : Subject) (old new : Search) (q : List ℤ) (sent : ℕ) → IsOf subject old → IsShown old.variables old.shown.items → IsCube old.shown.items q → old.found.items ≡ [] → Begins old new q → new.arena.base + sent ≡ length new.arena.clauses →
+    HasStarted (view_of subject old Idle) (view_of subject (record new { sent = sent }) Running) q
+starts subject old new q sent of shown cube none b all = record {
   subject = refl;
   job = ap Some b.prefix;
   found = ap (λ v. v.items) b.found ∙ none;
   untried = ap (untried_cubes new.shown.items new.base) b.trail ∙ assumed_untried new.shown.items new.base q [] refl;
-  here = λ e. cc;
+  here = ap (λ t. Some (front_cube t new.shown.items)) b.trail
+      ∙ ap (λ (p : Vec ℕ Global). Some (front_cube (assume_all q []) p.items)) b.shown ∙ ap Some (assumed_front old.shown.items q shown.rising (All-weaker (λ v. (0 < v) × (v ≤ old.variables)) (λ v. 0 < v) (λ v k. k.0) old.shown.items shown.named) cube);
   leaves = b.leaves;
-  fits = job_runs subject new
-      (record { variables = b.variables ∙ of.variables; formula = ap (λ a. formula_of (record old { arena = a })) b.arena ∙ of.formula; shown = ap (λ v. v.items) b.shown ∙ of.shown }) b.searching;
+  model =
+      ap (λ h. cond h (Some (hidden_literals new.variables new.shown.items (marked new.values.items))) None) b.has_model
+      ∙ ap (λ n. cond old.has_model (Some (hidden_literals n new.shown.items (marked new.values.items))) None) b.variables
+      ∙ ap (λ (v : Vec ℕ Global). cond old.has_model (Some (hidden_literals old.variables v.items (marked new.values.items))) None) b.shown
+      ∙ ap (λ (v : Vec Bool Global). cond old.has_model (Some (hidden_literals old.variables old.shown.items (marked v.items))) None) b.values;
+  clauses = ap (λ (a : Clauses). a.clauses) b.arena;
+  unsent = skipped (record new { sent = sent }) all;
+  fits = job_runs subject (record new { sent = sent })
+      (record { variables = b.variables ∙ of.variables; formula = ap (λ a. formula_of (record old { arena = a })) b.arena ∙ of.formula; shown = ap (λ v. v.items) b.shown ∙ of.shown }) (searching_sent new sent b.searching);
 }
 
 -- an engine without a job is idle
@@ -253,22 +309,10 @@ pub ended : (subject : Subject) (s : Search) (phase : Phase) → IsEngine subjec
 ended subject s phase h found none = let g = grounded s phase h.state in record {
   of = record { variables = h.of.variables; formula = h.of.formula; shown = h.of.shown };
   state = record {
-    ground = record {
-      small = g.small;
-      trail = g.trail;
-      stands = g.stands;
-      propagator = g.propagator;
-      shown = g.shown;
-      based = g.based;
-      named = g.named;
-      follow = g.follow;
-      settled = g.settled;
-      counted = g.counted;
-      capped = omega arith;
-      prefix = g.prefix;
-      cubes = subst (All (IsCube s.shown.items)) (sym none) (All-nil (IsCube s.shown.items));
-    };
+    ground = ground_with s g s.arena s.propagator s.trail s.order s.shrinker s.prefix s.base s.counts 0 found
+        (same_stands s g) refl refl g.shrinker g.prefix refl (omega arith) (subst (All (IsCube s.shown.items)) (sym none) (All-nil (IsCube s.shown.items)));
     found = none;
     leaves = refl;
   };
+  sent = h.sent;
 }

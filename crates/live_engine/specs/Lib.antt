@@ -1,6 +1,11 @@
-pub mod Walks
+pub mod Values
 pub mod Searching
 pub mod Steps
+pub mod Learning
 pub mod Starts
 pub mod Engines
 pub mod Marks
+pub mod Gives
+pub mod Imports
+pub mod Lemmas
+pub mod Sending

@@ -23,3 +23,5 @@ pub record Begins (old new : Search) (q : List ℤ) : Type 0 where
   pub arena : new.arena ≡ old.arena
   pub shown : new.shown ≡ old.shown
   pub found : new.found ≡ old.found
+  pub values : new.values ≡ old.values
+  pub has_model : new.has_model ≡ old.has_model

@@ -1,48 +1,20 @@
 //! Decisions: the lowest free variable, false first.
-ghost use Rattle.std.specs.Prelude.{◌≡◌, ◌+◌, ◌<◌, ◌≤◌, length, take, slice_index_or};
-ghost use Rattle.std.specs.Prelude.{slice_set};
-ghost use Rattle.std.specs.List.{All};
-ghost use Rattle.live_engine.specs.Walks.{IsFree, AreSet, AreSetUpto, HasReached, IsNextVariable};
+ghost use Rattle.std.specs.Prelude.{◌≡◌, ◌<◌, length, slice_set};
 ghost use Rattle.live_engine.specs.Searching.{IsSearching};
-ghost use Rattle.live_engine.specs.Steps.{DecidesOrEnds};
+ghost use Rattle.live_engine.specs.Steps.{DecidesOrIsFull};
 
 use crate::search::Search;
-use chrono_trail::Trail;
-
-/// How far the walk for the lowest free variable has come. It starts again where a decision is
-/// flipped.
-#[derive(Clone, Copy, Debug)]
-pub(crate) struct Reached {
-    /// So many of the shown variables, the first ones, are set.
-    pub(crate) shown: usize,
-    /// The variables 1 to this one are set.
-    pub(crate) variable: u32,
-}
-
-impl Reached {
-    /// Before the first variable.
-    pub(crate) fn none() -> Reached
-        ensures shown { result.shown ≡ 0 }
-        ensures variable { result.variable ≡ 0 }
-    {
-        Reached {
-            shown: 0,
-            variable: 0,
-        }
-    }
-}
 
 impl Search {
     /// Decides the lowest free variable false, on a new level, and notes how many leaves there are
     /// by now. False where each variable is set.
     pub(crate) fn decide(&mut self) -> bool
         requires { IsSearching self.old }
-        ensures { DecidesOrEnds self.old self.new result }
+        ensures { DecidesOrIsFull self.old self.new result }
     {
-        let shown = self.shown.as_slice();
-        match lowest_free(&self.trail, shown, self.variables, &mut self.reached) {
-            Some(variable) => {
-                self.trail.decide(-(variable as i32));
+        match self.order.next(&self.trail) {
+            Some(lit) => {
+                self.trail.decide(lit);
                 note(&mut self.counts, self.trail.level(), self.leaves);
                 true
             }
@@ -57,58 +29,4 @@ fn note(counts: &mut Vec<u64>, level: u32, leaves: u64)
     ensures { counts.new.items ≡ slice_set counts.old.items level leaves }
 {
     counts[level as usize] = leaves;
-}
-
-/// The lowest free variable: of the shown ones first, and then of all. None where each is set. The
-/// walk goes on from where it came to before.
-fn lowest_free(trail: &Trail, shown: &[u32], variables: u32, reached: &mut Reached) -> Option<u32>
-    requires shown { All (λ v. (0 < v) × (v ≤ variables)) shown.now }
-    requires variables { variables ≤ trail.now.variables }
-    requires before { HasReached trail.now.items shown.now reached.old }
-    ensures next { IsNextVariable trail.now.items variables shown.now result }
-    ensures after { HasReached trail.now.items shown.now reached.new }
-{
-    reached.shown = first_free_shown(trail, shown, reached.shown);
-    if reached.shown < shown.len() {
-        return Some(shown[reached.shown]);
-    }
-    reached.variable = last_set(trail, variables, reached.variable);
-    if reached.variable < variables {
-        Some(reached.variable + 1)
-    } else {
-        None
-    }
-}
-
-/// The place of the first shown variable that is free, and their number where each is set. Those
-/// before the place `from` are set.
-fn first_free_shown(trail: &Trail, shown: &[u32], from: usize) -> usize
-    requires variables { All (λ v. v ≤ trail.now.variables) shown.now }
-    requires before { AreSet trail.now.items (take from shown.now) }
-    ensures set { AreSet trail.now.items (take result shown.now) }
-    ensures free { result < length shown.now →
-        IsFree trail.now.items (slice_index_or shown.now result 0) }
-{
-    for place in from..shown.len() {
-        if trail.item(shown[place]).is_none() {
-            return place;
-        }
-    }
-    shown.len()
-}
-
-/// The last variable before the first free one of 1 to `variables`, and `variables` where each is
-/// set. Those up to `from` are set.
-fn last_set(trail: &Trail, variables: u32, from: u32) -> u32
-    requires variables { variables ≤ trail.now.variables }
-    requires before { AreSetUpto trail.now.items from }
-    ensures set { AreSetUpto trail.now.items result }
-    ensures free { result < variables → IsFree trail.now.items (result + 1) }
-{
-    for below in from..variables {
-        if trail.item(below + 1).is_none() {
-            return below;
-        }
-    }
-    variables
 }

@@ -1,13 +1,13 @@
 //! The end of a job: what it has left open, as cubes.
-ghost use Rattle.std.specs.Prelude.{◌≡◌, ◌<◌, ◌+◌, ◌^◌, ◌++◌, option_to_list, Option, None, Some, IfOk, length, filter_map, ℤ};
+ghost use Rattle.std.specs.Prelude.{◌≡◌, ◌<◌, ◌≤◌, ◌+◌, ◌^◌, ◌++◌, option_to_list, Option, None, Some, cond, not, ◌&&◌, IfOk, length, filter_map, ℤ};
 ghost use Rattle.std.specs.Prelude.{slice_index_or, slice_set, nat_abs};
 ghost use Rattle.search_region.specs.Region.{is_open};
 ghost use Rattle.sat_terms.specs.Cubes.{is_among};
 ghost use Rattle.search_job.specs.Open.{left_cubes};
 ghost use Rattle.chrono_trail.specs.Pictures.{pictured};
-ghost use Rattle.live_engine.specs.Searching.{IsGround, IsSearching, pictured_trail};
+ghost use Rattle.live_engine.specs.Searching.{IsGround, IsSearching, pictured_trail, model_of};
 ghost use Rattle.live_engine.specs.Marks.{AreMarks, plain_literal};
-ghost use Rattle.live_engine.specs.Engines.{IsInPhase, untried_of, here_of};
+ghost use Rattle.live_engine.specs.Engines.{IsInPhase, untried_of, here_of, value_told};
 
 use crate::flipping::is_shown;
 use crate::search::{Phase, Search};
@@ -48,6 +48,17 @@ impl Search {
         Ok(cubes)
     }
 
+    /// The value of a hidden variable in the last model, where there was one.
+    pub(crate) fn hidden_value(&self, variable: u32) -> Option<bool>
+        requires ground { IsGround self.now }
+        requires some { 0 < variable }
+        requires within { variable ≤ self.now.variables }
+        ensures { result ≡ value_told (model_of self.now) variable }
+    {
+        let shows = self.is_shown[variable as usize];
+        value_if(self.has_model, shows, self.values[variable as usize])
+    }
+
     /// Whether the other side of the item is still to be tried.
     fn is_open(&self, item: Item) -> bool
         requires ground { IsGround self.now }
@@ -61,7 +72,11 @@ impl Search {
     }
 
     /// The cube of the literals that are marked at the shown variables.
-    fn marked_cube(&self, alloc: Global, marks: &[Option<i32>]) -> Result<Cube, AllocError>
+    pub(crate) fn marked_cube(
+        &self,
+        alloc: Global,
+        marks: &[Option<i32>],
+    ) -> Result<Cube, AllocError>
         requires ground { IsGround self.now }
         requires long { length marks.now ≡ self.now.variables + 1 }
         requires marks { AreMarks self.now.variables marks.now }
@@ -78,6 +93,17 @@ impl Search {
     }
 }
 
+/// The value of a variable, where there is a model and the variable is none of the shown ones.
+fn value_if(has_model: bool, shows: bool, value: bool) -> Option<bool>
+    ensures { result ≡ cond (has_model && not shows) (Some value) None }
+{
+    if has_model && !shows {
+        Some(value)
+    } else {
+        None
+    }
+}
+
 /// The literal that is marked at a variable.
 fn marked(marks: &[Option<i32>], variable: u32) -> Option<i32>
     requires { variable < length marks.now }
@@ -87,7 +113,7 @@ fn marked(marks: &[Option<i32>], variable: u32) -> Option<i32>
 }
 
 /// Marks a literal at a variable, or none.
-fn mark(marks: &mut Vec<Option<i32>>, variable: u32, lit: Option<i32>)
+pub(crate) fn mark(marks: &mut Vec<Option<i32>>, variable: u32, lit: Option<i32>)
     requires { variable < length marks.old.items }
     ensures { marks.new.items ≡ slice_set marks.old.items variable lit }
 {
@@ -95,7 +121,7 @@ fn mark(marks: &mut Vec<Option<i32>>, variable: u32, lit: Option<i32>)
 }
 
 /// The literal of an item that no clause implied.
-fn plain_literal(item: Item) -> Option<i32>
+pub(crate) fn plain_literal(item: Item) -> Option<i32>
     ensures { result ≡ plain_literal item }
 {
     match item.kind {

@@ -16,10 +16,11 @@ mod engine;
 mod exposing;
 mod finding;
 mod flipping;
+mod giving;
+mod importing;
+mod learning;
 mod search;
 mod starting;
-#[cfg(test)]
-mod tests;
 
 pub use engine::Engine;
 pub use search::Leaf;

@@ -5,11 +5,14 @@ ghost use Rattle.propagation.specs.Steps.{CameTo};
 ghost use Rattle.live_engine.specs.Searching.{IsSearching, KeepsLeaves, left};
 ghost use Rattle.live_engine.specs.Steps.{ComesTo, counted};
 
-use crate::deciding::Reached;
 use chrono_trail::Trail;
 use clause_arena::Arena;
+use conflict_analysis::Analyser;
+use implicant_shrink::Shrinker;
+use projected_decide::Order;
 use propagation::{Propagated, Propagator};
 use sat_terms::Cube;
+use std::alloc::Global;
 
 /// At so many leaves their number stands still.
 const MOST_LEAVES: u64 = 1 << 62;
@@ -56,10 +59,18 @@ pub(crate) struct Search {
     pub(crate) propagator: Propagator,
     /// What is assigned.
     pub(crate) trail: Trail,
-    /// How far the walk for the lowest free variable has come.
-    pub(crate) reached: Reached,
+    /// What is decided next.
+    pub(crate) order: Order,
+    /// What a conflict teaches.
+    pub(crate) analyser: Analyser,
+    /// So many lemmas are kept at most.
+    pub(crate) most_lemmas: u32,
+    /// What a model needs of its literals.
+    pub(crate) shrinker: Shrinker,
     /// The shown variables, rising.
     pub(crate) shown: Vec<u32>,
+    /// Whether a variable is one of them, by its number.
+    pub(crate) is_shown: Vec<bool>,
     /// The prefix of the job.
     pub(crate) prefix: Cube,
     /// Decisions up to this level are not flipped: their other sides are not the job's.
@@ -68,17 +79,25 @@ pub(crate) struct Search {
     pub(crate) counts: Vec<u64>,
     /// How many leaves there were.
     pub(crate) leaves: u64,
+    /// The value of each variable in the last model, by its number.
+    pub(crate) values: Vec<bool>,
+    /// Whether there was a model.
+    pub(crate) has_model: bool,
+    /// So many of the oldest items of the trail say the same as these values.
+    pub(crate) copied: usize,
+    /// So many of the lemmas, the first ones, were sent or are not to be.
+    pub(crate) sent: u32,
     /// The cubes found, in the order in which they were.
     pub(crate) found: Vec<Cube>,
 }
 
 impl Search {
-    /// Makes moves up to the next leaf. It takes no memory but `room` and the place kept free among
-    /// the found cubes.
-    pub(crate) fn next_leaf(&mut self, room: Vec<i32>) -> Step
+    /// Makes moves up to the next leaf. Where memory is wanting it does with `spare` and the place
+    /// kept free among the found cubes.
+    pub(crate) fn next_leaf(&mut self, alloc: Global, spare: &mut Vec<i32>) -> Step
         requires searching { IsSearching self.old }
-        requires empty { room.items ≡ [] }
-        requires room { length self.old.shown.items ≤ vec_capacity room }
+        requires empty { spare.old.items ≡ [] }
+        requires room { length self.old.shown.items ≤ vec_capacity spare.old }
         requires place { length self.old.found.items < vec_capacity self.old.found }
         ensures { ComesTo self.old self.new result }
     {
@@ -94,7 +113,7 @@ impl Search {
                 }
                 Propagated::Quiet => {
                     if !self.decide() {
-                        return self.on_model(room);
+                        return self.on_model(alloc, spare);
                     }
                 }
             }

@@ -1,47 +1,67 @@
 //! Starts: the search of a subject, and a job of it from a prefix.
-ghost use Rattle.std.specs.Prelude.{◌≡◌, ◌<◌, ◌^◌, [], true, List, ℤ, IfOk};
+ghost use Rattle.std.specs.Prelude.{◌≡◌, ℕ, ◌+◌, ◌<◌, ◌≤◌, ◌^◌, [], true, false, List, ℤ, IfOk, length, slice_index_or};
 ghost use Rattle.std.specs.List.{All};
 ghost use Rattle.sat_terms.specs.Literals.{IsLiteralOf};
-ghost use Rattle.sat_terms.specs.Cubes.{IsCube, rises_above};
+ghost use Rattle.sat_terms.specs.Cubes.{IsCube, is_among, rises_above};
 ghost use Rattle.sat_terms.specs.Subjects.{IsSubject};
 ghost use Rattle.search_job.specs.Reasons.{assume_all};
 ghost use Rattle.chrono_trail.specs.Trails.{IsTrail};
 ghost use Rattle.chrono_trail.specs.Pictures.{picture_of};
+ghost use Rattle.chrono_trail.specs.Reasons.{AreReasoned};
 ghost use Rattle.live_engine.specs.Searching.{IsGround};
 ghost use Rattle.live_engine.specs.Starts.{IsOf, Begins};
 
-use crate::deciding::Reached;
 use crate::search::Search;
 use chrono_trail::{Kind, Trail};
 use clause_arena::Arena;
+use conflict_analysis::Analyser;
+use implicant_shrink::Shrinker;
+use projected_decide::Order;
 use propagation::Propagator;
 use sat_terms::{Cube, Subject};
 use std::alloc::{AllocError, Global};
 
 impl Search {
-    /// A search of the subject, without a job.
-    pub(crate) fn make(alloc: Global, subject: &Subject) -> Result<Search, AllocError>
+    /// A search of the subject, without a job, which keeps so many lemmas at most.
+    pub(crate) fn make(
+        alloc: Global,
+        subject: &Subject,
+        most_lemmas: u32,
+    ) -> Result<Search, AllocError>
         requires { IsSubject subject.now.formula.variables subject.now.formula.clauses
-            subject.now.shown }
+            subject.now.shown subject.now.under }
         ensures ground { IfOk result IsGround }
         ensures subject { IfOk result (IsOf subject.now) }
         ensures found { IfOk result (λ search. search.found.items ≡ []) }
         ensures leaves { IfOk result (λ search. search.leaves ≡ 0) }
+        ensures model { IfOk result (λ search. search.has_model ≡ false) }
+        ensures clauses { IfOk result (λ search. length search.arena.clauses ≡ search.arena.base) }
+        ensures sent { IfOk result (λ search. search.sent ≡ 0) }
     {
         let variables = subject.formula.variables;
         let arena = Arena::make(alloc, &subject.formula)?;
         let propagator = Propagator::make(alloc, &arena, variables)?;
+        let shrinker = Shrinker::make(alloc, &arena, variables)?;
+        let shown = subject.shown.as_slice();
         Ok(Search {
             variables,
             arena,
             propagator,
             trail: Trail::make(alloc, variables)?,
-            reached: Reached::none(),
-            shown: subject.shown.as_slice().to_vec(alloc)?,
+            order: Order::make(alloc, variables, shown)?,
+            analyser: Analyser::make(alloc, variables)?,
+            most_lemmas,
+            shrinker,
+            shown: shown.to_vec(alloc)?,
+            is_shown: table_of(alloc, variables, shown)?,
             prefix: Cube::from_vec(Vec::new(alloc)),
             base: 0,
             counts: vec![in alloc; 0u64; variables as usize + 1]?,
             leaves: 0,
+            values: vec![in alloc; false; variables as usize + 1]?,
+            has_model: false,
+            copied: 0,
+            sent: 0,
             found: Vec::new(alloc),
         })
     }
@@ -57,10 +77,25 @@ impl Search {
         self.trail.clear();
         assume(&mut self.trail, prefix.lits());
         self.prefix = prefix;
-        self.reached = Reached::none();
+        self.order.put_back_all();
+        self.copied = 0;
         self.base = 0;
         self.leaves = 0;
     }
+}
+
+/// Whether each of the variables up to `variables` is a shown one, by its number.
+fn table_of(alloc: Global, variables: u32, shown: &[u32]) -> Result<Vec<bool>, AllocError>
+    requires { All (λ v. v ≤ variables) shown.now }
+    ensures places { IfOk result (λ table. length table.items ≡ variables + 1) }
+    ensures tells { IfOk result (λ table. (v : ℕ) → v ≤ variables →
+        slice_index_or table.items v false ≡ is_among shown.now v) }
+{
+    let mut table = vec![in alloc; false; variables as usize + 1]?;
+    for variable in shown {
+        table[*variable as usize] = true;
+    }
+    Ok(table)
 }
 
 /// Puts the literals of a prefix on an empty trail.
@@ -71,6 +106,7 @@ fn assume(trail: &mut Trail, prefix: &[i32])
     requires rising { rises_above 0 prefix.now ≡ true }
     requires named { All (IsLiteralOf trail.old.variables) prefix.now }
     ensures items { (f : List (List ℤ)) → picture_of f trail.new.items ≡ assume_all prefix.now [] }
+    ensures reasoned { (f : List (List ℤ)) → AreReasoned f trail.new.items }
     ensures level { trail.new.level ≡ 0 }
     ensures variables { trail.new.variables ≡ trail.old.variables }
     ensures seen { trail.new.seen ≡ trail.old.seen }

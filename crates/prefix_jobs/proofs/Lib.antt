@@ -1,3 +1,5 @@
+mod Examples
 pub mod Joined
 pub mod Order
 pub mod Space
+pub mod Whole

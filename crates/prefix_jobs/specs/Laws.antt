@@ -1,8 +1,10 @@
 -- The laws of outcomes.
 use Rattle.std.specs.Prelude.{◌≡◌, ℕ, ◌-◌, ◌<◌, ◌≤◌, ◌^◌, ◌⊎◌, true, false, not, List, [], ◌∷◌, ◌++◌, filter, length, ℤ, Some, None}
 use Rattle.std.specs.List.{All, AllPairs}
-use Rattle.std.specs.List.Sorted.{IsStrictlyIncreasing}
+use Rattle.std.specs.List.Sorted.{IsStrictlyIncreasing, IsSorted, IsPermutation}
 use Rattle.sat_terms.specs.Cubes.{IsCube, is_among, apart, within}
+use Rattle.sat_terms.specs.CubeOrder.{cube_order}
+use Rattle.sat_terms.specs.RightList.{IsRightList}
 use Rattle.search_region.specs.Trail.{Item}
 use Rattle.search_job.specs.Give.{GivesCubes}
 use Rattle.search_job.specs.Open.{Exposes}
@@ -52,6 +54,14 @@ ExposeFitsPrefix =
     IsStrictlyIncreasing p → IsCube p q → All (IsCube p) found →
     Exposes f p (length p) q found left leaves → length left < 2 ^ 32 - 1 →
     FitsPrefix f p q (record { cubes = found; rest = left; kept = None; leaves = leaves })
+
+-- Where nothing is left open, the cubes of a fitting outcome are the right list of its prefix, once
+-- they are sorted.
+abbrev pub NothingOpenIsRight : Type 0
+NothingOpenIsRight =
+    (f : List (List ℤ)) (p : List ℕ) (q : List ℤ) (o : Outcome) (cubes : List (List ℤ)) →
+    IsCube p q → FitsPrefix f p q o → open_parts o ≡ [] → IsPermutation o.cubes cubes →
+    IsSorted cube_order cubes → IsRightList f p q cubes
 
 -- Cubes that are apart weigh no more than there are projected assignments.
 abbrev pub ApartCubesWeighLittle : Type 0

@@ -16,9 +16,11 @@ use Rattle.search_region.proofs.ReadCube.{read_cube_is_cube}
 use Rattle.search_region.proofs.Root.{cases_le, root_whole, root_above}
 use Rattle.search_job.specs.Give.{Tells, next_count, kept_prefix, Gives, GivesCubes}
 use Rattle.search_job.specs.Same.{SamePrefix, is_plain, front_cube, other_cube}
+use Rattle.search_job.specs.Weights.{weight}
 use Rattle.search_job.specs.Working.{Working}
 use Rattle.search_job.proofs.Give.{give_works}
 use Rattle.search_job.proofs.Same.{front_same, other_same, working_moved, fits_moved}
+use Rattle.search_job.proofs.Weights.{weighs_recount}
 
 -- the literals of a cube are named
 pub named_above : (n : ℕ) (c : List ℤ) → rises_above n c ≡ true → list_all (λ l. nat_lt 0 (nat_abs l)) c ≡ true
@@ -43,6 +45,14 @@ steady_root f shown k (i ∷ older) s = elim (cases_le (depth (i ∷ older)) k) 
   | inl low ↦ rw (root_whole k (i ∷ older) low) s
   | inr high ↦ rw (root_above k i older high) (steady_root f shown k older s.1)
 ]
+
+-- counts that are the same at each level
+pub working_recount : (f : List (List ℤ)) (shown : ℕ → Bool) (n base : ℕ) (count next : ℕ → ℕ) (q : List ℤ) (trail : List Item) (found : List (List ℤ)) (leaves : ℕ) → ((k : ℕ) → next k ≡ count k) → Working f shown n base count q trail found leaves → Working f shown n base next q trail found leaves
+working_recount f shown n base count next q trail found leaves same w = record {
+  running = w.running;
+  stuck = w.stuck;
+  weights = weighs_recount shown n base q f count next (weight n (front shown trail)) leaves trail w.running.steady (λ k high inside. same k) w.weights;
+}
 
 -- the give, with cubes
 pub give_keeps_working : (f : List (List ℤ)) (p : List ℕ) (n base : ℕ) (count : ℕ → ℕ) (q : List ℤ) (newer : List Item) (d : Item) (older : List Item) (found : List (List ℤ)) (leaves : ℕ) → IsStrictlyIncreasing p → All (λ v. 0 < v) p → Working f (is_among p) n base count q (newer ++ d ∷ older) found leaves → All (λ c. rises_above 0 c ≡ true) found → d.kind ≡ Decided → d.level ≡ suc base → seen (is_among p) d ≡ true →

@@ -1,5 +1,5 @@
 -- The prefix that a job keeps when it gives a branch away, and the cubes that are within it.
-use Rattle.std.proofs.Common.{◌≡◌, ℕ, ◌+◌, ◌≤◌, Bool, true, false, not, ◌&&◌, ℤ, nat_abs, List, [], ◌∷◌, ◌++◌, filter, refl, subst, ◌∙◌, ◌⊎◌, inl, inr, arith}
+use Rattle.std.proofs.Common.{◌≡◌, ℕ, suc, ◌+◌, ◌<◌, ◌≤◌, Bool, true, false, not, ◌&&◌, ℤ, nat_abs, List, [], ◌∷◌, ◌++◌, filter, refl, subst, ◌∙◌, ◌⊎◌, inl, inr, arith}
 use Rattle.std.specs.List.{list_all, AllByRecursion}
 use Rattle.std.proofs.lemmas.Bool.{and_parts, and_from, both_ways, cases_Bool, not-true}
 use Rattle.std.proofs.lemmas.List.Folds.{list_all-append}
@@ -10,7 +10,10 @@ use Rattle.search_region.specs.Cubes.{hits, over}
 use Rattle.search_region.specs.Region.{leaves_at, front, root}
 use Rattle.search_region.proofs.Agree.{agree_tail}
 use Rattle.search_region.proofs.Model.{front_true}
-use Rattle.search_region.proofs.Root.{cases_le, front_older, root_whole, root_above}
+use Rattle.search_region.specs.Steady.{Steady}
+use Rattle.search_region.proofs.Back.{steady_older}
+use Rattle.search_region.proofs.Flip.{fine_decided}
+use Rattle.search_region.proofs.Root.{cases_le, front_older, root_whole, root_above, root_older}
 use Rattle.search_region.proofs.Fits.{front_agrees, in_front}
 use Rattle.search_region.proofs.Agree.{agree_head}
 use Rattle.search_job.specs.Stuck.{Stuck, AllStuck}
@@ -51,6 +54,13 @@ root_more shown t j k less (i ∷ older) h = elim (cases_le (depth (i ∷ older)
   | inl low ↦ root_front shown j t (i ∷ older) (subst (λ rest. holds t (front shown rest) ≡ true) (root_whole k (i ∷ older) low) h)
   | inr high ↦ rw (root_above j i older (omega arith)) (root_more shown t j k less older (subst (λ rest. holds t (front shown rest) ≡ true) (root_above k i older high) h))
 ]
+
+-- it ends at the decision of the next level
+pub root_next : (f : List (List ℤ)) (shown : ℕ → Bool) (k : ℕ) (newer : List Item) (d : Item) (older : List Item) → Steady f shown (newer ++ d ∷ older) → d.kind ≡ Decided → d.level ≡ suc k → root k (newer ++ d ∷ older) ≡ older
+root_next f shown k newer d older s decided next =
+    let opens = (fine_decided f shown d older (steady_older f shown newer (d ∷ older) s).0 decided).opens in
+    let high : k < depth (d ∷ older) = rw decided (omega arith) in
+    root_older f shown k newer (d ∷ older) s high ∙ root_above k d older high ∙ root_whole k older (omega arith)
 
 -- the literals of the front are shown
 pub over_front : (shown : ℕ → Bool) (trail : List Item) → over shown (front shown trail) ≡ true

@@ -1,5 +1,5 @@
 -- What a job has left open, as cubes.
-use Rattle.std.proofs.Common.{◌≡◌, ℕ, suc, ◌<◌, Bool, true, ◌&&◌, nat_lt, ℤ, neg_ℤ, List, [], ◌∷◌, ◌++◌, length, get_or, refl, ap, ◌∙◌, inl, inr, arith}
+use Rattle.std.proofs.Common.{◌≡◌, ℕ, suc, ◌<◌, Bool, true, ◌&&◌, nat_lt, ℤ, neg_ℤ, List, [], ◌∷◌, ◌++◌, length, get_or, refl, ap, ◌∙◌, inl, inr, arith, length-append}
 use Rattle.std.specs.List.{All, list_all}
 use Rattle.std.specs.List.Sorted.{IsStrictlyIncreasing}
 use Rattle.std.proofs.lemmas.Bool.{and_parts, cases_Bool}
@@ -117,3 +117,14 @@ untried_cubes_first f p base (i ∷ newer) d older s decided next shows =
       | inl now ↦ rw (alike ∙ now, now) (ap (λ x. x ++ other_cube i (newer ++ d ∷ older) p ∷ []) (untried_cubes_first f p base newer d older s.1 decided next shows))
       | inr shut ↦ rw (alike ∙ shut, shut) (untried_cubes_first f p base newer d older s.1 decided next shows)
     ]
+
+-- where no prefix is untried, no cube is
+pub untried_cubes_none : (p : List ℕ) (base : ℕ) (trail : List Item) → untried (is_among p) base trail ≡ [] → untried_cubes p base trail ≡ []
+untried_cubes_none p base [] none = refl
+untried_cubes_none p base (i ∷ older) none = elim (cases_Bool (is_open (is_among p) base i)) [
+  | inr shut ↦ rw shut (untried_cubes_none p base older (rw shut at none))
+  | inl opens ↦
+      let long = ap length (rw opens at none) in
+      let one = length-append (untried (is_among p) base older) ((front (is_among p) older ++ neg_ℤ i.lit ∷ []) ∷ []) in
+      absurd (omega arith)
+]

@@ -209,6 +209,17 @@ NextCountIsRead =
     (f : List (List ℤ)) (shown : ℕ → Bool) (k : ℕ) (count : ℕ → ℕ) (now : ℕ) →
     ReadsNextCount f shown k count now
 
+-- The items up to the level k are those that stand before the decision of the next level, whether
+-- that is shown or hidden; where there is none, all.
+pub record ReadsRoot (f : List (List ℤ)) (shown : ℕ → Bool) (k : ℕ) : Type 0 where
+  pub none : (trail : List Item) → depth trail ≤ k → root k trail ≡ trail
+  pub next : (newer : List Item) (d : Item) (older : List Item) →
+      Steady f shown (newer ++ d ∷ older) → d.kind ≡ Decided → d.level ≡ suc k →
+      root k (newer ++ d ∷ older) ≡ older
+
+abbrev pub RootIsRead : Type 0
+RootIsRead = (f : List (List ℤ)) (shown : ℕ → Bool) (k : ℕ) → ReadsRoot f shown k
+
 -- Nothing is untried where no level is above the base, or the next one's decision is hidden.
 pub record NoneUntried (f : List (List ℤ)) (shown : ℕ → Bool) (base : ℕ) : Type 0 where
   pub none : (trail : List Item) → Steady f shown trail → depth trail ≤ base →

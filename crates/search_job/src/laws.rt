@@ -6,7 +6,8 @@ ghost use Rattle.search_job.specs.Laws.{DecideKeepsWorking, ImplyKeepsWorking};
 ghost use Rattle.search_job.specs.Laws.{ConflictKeepsWorking, TurnKeepsWorking, ModelKeepsWorking};
 ghost use Rattle.search_job.specs.Laws.{TurnLeavesLess, WorkingFits, ConflictEndsWorking};
 ghost use Rattle.search_job.specs.Laws.{ModelEndsWorking, LowestUntried, GiveKeepsWorking};
-ghost use Rattle.search_job.specs.Laws.{NextCountIsRead, NoneUntriedIsRead, LeastReachesAbove};
+ghost use Rattle.search_job.specs.Laws.{NextCountIsRead, NoneUntriedIsRead, RootIsRead};
+ghost use Rattle.search_job.specs.Laws.{LeastReachesAbove};
 ghost use Rattle.search_job.specs.Laws.{ExposeFits, ImportFollows, ImpliedLiteralFollows};
 
 /// On a steady trail each literal that stands by a clause has it as its reason.
@@ -107,6 +108,11 @@ pub fn next_count_is_read()
 /// Whether anything is untried is read off the next level's decision.
 pub fn none_untried_is_read()
     ensures { NoneUntriedIsRead }
+{}
+
+/// The items that the kept prefix is read off are those before the next level's decision.
+pub fn root_is_read()
+    ensures { RootIsRead }
 {}
 
 /// A least level above the base is that of some shown item.

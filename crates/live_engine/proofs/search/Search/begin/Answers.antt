@@ -15,7 +15,7 @@ assume-requires-clause-named c =
 
 pub returns : goal.returns
 returns c =
-    begun c.args.self.now c.assume.new.trail c.none-self.result c.args.prefix c.requires.ground c.requires.prefix c.requires.found
-    (λ f. c.assume.ensures.items f ∙ ap (λ q. assume_all q []) c.lits.ensures.same) c.assume.ensures.level
+    begun c.args.self.now c.assume.new.trail c.put_back_all.new.self c.args.prefix c.requires.ground c.requires.prefix c.requires.found
+    (λ f. c.assume.ensures.items f ∙ ap (λ q. assume_all q []) c.lits.ensures.same) c.assume.ensures.reasoned c.assume.ensures.level
     (c.assume.ensures.variables ∙ c.clear.ensures.variables) (c.assume.ensures.seen ∙ c.clear.ensures.seen) c.assume.ensures.trail
-    c.none-self.ensures.shown c.none-self.ensures.variable
+    c.put_back_all.ensures

@@ -1,11 +1,30 @@
-use Rattle.std.proofs.Common.{◌≡◌, ◌+◌, ◌≤◌, ℕ, ℤ, pos, neg_ℤ, ◌-ℤ◌, [], ◌∷◌, ◌++◌, set, Some, ap, subst, refl, ◌∙◌, arith}
+use Rattle.std.proofs.Common.{◌≡◌, ◌+◌, ◌<◌, ◌^◌, ◌∷◌, [], ◌++◌, set, Some, ap, sym, subst, refl, ◌∙◌, arith, ℤ, nat_abs}
 use mir.Syntax.{w32}
 use mir.Val.{to_z, of_z}
-use Rattle.std.proofs.lemmas.Int.{ints}
+use Rattle.std.proofs.lemmas.Int.{to_z-of_z}
 use Rattle.chrono_trail.specs.declared.item.Kind.TheVariants.{Decided}
-use Rattle.live_engine.specs.Walks.{IsNextVariable, HasReached}
-use Rattle.live_engine.proofs.Moves.{decided_runs, level_bound, walked_searches}
+use Rattle.chrono_trail.specs.declared.item.Item.{Item}
+use Rattle.live_engine.proofs.Literals.{literal_fits}
+use Rattle.chrono_trail.specs.Items.{item_of}
+use Rattle.projected_decide.specs.Orders.{next_decision}
+use Rattle.projected_decide.specs.Laws.{IsLowestFree}
+use Rattle.live_engine.proofs.Moves.{next_free, next_full, decided_runs, level_bound, walked_searches}
 use Rattle.live_engine.proofs.search.Search.decide.Goals as goal
+
+free : (c : goal.After-decide-arg-1) → IsLowestFree c.args.self.now.variables c.args.self.now.shown.items c.args.self.now.trail.items c.in-Some.lit
+free c = next_free c.args.self.now c.requires c.in-Some.lit (sym c.in-Some.ensures.next)
+
+same : (c : goal.After-decide-arg-1) → to_z w32 (of_z w32 c.in-Some.lit) ≡ c.in-Some.lit
+same c = to_z-of_z w32 c.in-Some.lit (literal_fits c.in-Some.lit (let low = (free c).named.1 in let few = c.requires.ground.small in (omega arith)))
+
+pub decide-requires-clause-named : goal.decide-requires-clause-named
+decide-requires-clause-named c = subst (λ (z : ℤ). 0 < nat_abs z) (sym (same c)) (free c).named.0
+
+pub decide-requires-clause-within : goal.decide-requires-clause-within
+decide-requires-clause-within c = let low = (free c).named.1 in let wide = c.requires.ground.trail in let bits = ap nat_abs (same c) in omega arith
+
+pub decide-requires-clause-unassigned : goal.decide-requires-clause-unassigned
+decide-requires-clause-unassigned c = ap (λ (z : ℤ). item_of c.args.self.now.trail.items (nat_abs z)) (same c) ∙ (free c).free
 
 pub note-requires : goal.note-requires
 note-requires c =
@@ -20,21 +39,14 @@ note-requires c =
 pub returns-in-Some : goal.returns-in-Some
 returns-in-Some c =
     let old = c.args.self.now in
-    let x : ℕ = c.in-Some.variable in
-    let few = c.requires.ground.small in
-    let low : x ≤ old.variables = c.in-Some.ensures.next.1 in
-    let lit : to_z w32 (of_z w32 (pos 0 -ℤ to_z w32 x)) ≡ neg_ℤ (pos x) = omega (arith, ints) in
-    decided_runs old c.requires c.decide.new.self c.lowest_free.new.reached c.note.new.counts x
-    (subst (λ p. IsNextVariable old.trail.items old.variables p (Some x)) c.as_slice-shown.ensures.value c.in-Some.ensures.next)
-    (c.decide.ensures.items ∙ ap (λ (z : ℤ). old.trail.items ++ record { lit = z; level = old.trail.level + 1; kind = Decided } ∷ []) lit)
-    c.decide.ensures.level c.decide.ensures.variables c.decide.ensures.seen c.decide.ensures.trail
-    (subst (λ p. HasReached old.trail.items p c.lowest_free.new.reached) c.as_slice-shown.ensures.value c.in-Some.ensures.after)
+    decided_runs old c.requires c.decide.new.self c.next.new.self c.note.new.counts c.in-Some.lit (sym c.in-Some.ensures.next) c.in-Some.ensures.order
+    (c.decide.ensures.items ∙ ap (λ (z : ℤ). old.trail.items ++ record { lit = z; level = old.trail.level + 1; kind = Decided } ∷ []) (to_z-of_z w32 c.in-Some.lit (literal_fits c.in-Some.lit (let low = (next_free old c.requires c.in-Some.lit (sym c.in-Some.ensures.next)).named.1 in let few = c.requires.ground.small in (omega arith)))))
+    c.decide.ensures.level c.decide.ensures.variables c.decide.ensures.seen c.decide.ensures.trail c.in-Some.ensures.passed
     (c.note.ensures ∙ ap (λ k. set old.counts.items k old.leaves) c.level.ensures.level)
 
 pub returns-in-None : goal.returns-in-None
 returns-in-None c = record {
-  searching = walked_searches c.args.self.now c.lowest_free.new.reached c.requires
-      (subst (λ p. HasReached c.args.self.now.trail.items p c.lowest_free.new.reached) c.as_slice-shown.ensures.value c.lowest_free.ensures.after);
+  searching = walked_searches c.args.self.now c.next.new.self c.requires c.next.ensures.passed c.next.ensures.order;
   same = refl;
-  full = subst (IsNextVariable c.args.self.now.trail.items c.args.self.now.variables c.as_slice-shown.result.now) c.in-None.is c.lowest_free.ensures.next;
+  full = next_full c.args.self.now c.requires (sym c.next.ensures.next ∙ c.in-None.is);
 }

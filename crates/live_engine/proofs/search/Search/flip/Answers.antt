@@ -1,46 +1,23 @@
-use Rattle.std.proofs.Common.{◌-◌, ◌<◌, ℤ, pos, neg_ℤ, nat_abs, [], ◌∷◌, ◌++◌, get_or, ap, refl, ◌∙◌}
-use Rattle.sat_terms.specs.Cubes.{is_among}
-use Rattle.sat_terms.proofs.CubeLemmas.{nat_abs-neg}
-use Rattle.sat_terms.proofs.Machine.{nat_abs-bits}
-use Rattle.chrono_trail.specs.declared.item.Kind.TheVariants.{Assumed, Flipped}
-use Rattle.chrono_trail.specs.declared.item.Item.{Item}
-use Rattle.chrono_trail.specs.Items.{item_of}
-use Rattle.chrono_trail.proofs.Splits.{backtracking_frees}
-use Rattle.live_engine.proofs.Literals.{negated, literal_fits, decision_at}
+use Rattle.std.proofs.Common.{◌≡◌, ◌<◌, sym, subst, ap, arith}
+use Rattle.sat_terms.specs.Literals.{IsLiteralOf}
+use Rattle.live_engine.proofs.Others.{back_named, back_free, flipped}
 use Rattle.live_engine.proofs.search.Search.flip.Goals as goal
 
-pub assign-requires-clause-unassigned : goal.assign-requires-clause-unassigned
-assign-requires-clause-unassigned c =
-    let t = c.args.self.now.trail in
-    let none : Item = record { lit = pos 0; level = 0; kind = Assumed } in
-    let d : Item = get_or c.items.result.now c.decision.result none in
-    let known = decision_at t c.items.result.now c.args.level c.decision.result none c.items.ensures.trail c.decision.ensures c.items.ensures.items in
-    let above : 0 < c.args.level = c.requires.some in
-    ap (item_of c.backtrack.new.self.items) (ap nat_abs (negated d.lit known.1) ∙ nat_abs-neg d.lit)
-    ∙ ap (λ xs. item_of xs (nat_abs d.lit)) c.backtrack.ensures.items
-    ∙ backtracking_frees t.variables t.items t.level c.args.level d c.items.ensures.trail above known.0
+pub put_other-requires-clause-named : goal.put_other-requires-clause-named
+put_other-requires-clause-named c =
+    (back_named c.args.self.now c.args.level c.take_back-decision.result c.requires.ground c.take_back-decision.ensures.decided).0
+
+pub put_other-requires-clause-of : goal.put_other-requires-clause-of
+put_other-requires-clause-of c =
+    let low = (back_named c.args.self.now c.args.level c.take_back-decision.result c.requires.ground c.take_back-decision.ensures.decided).1 in
+    let same = c.take_back-decision.ensures.variables in omega arith
+
+pub put_other-requires-clause-free : goal.put_other-requires-clause-free
+put_other-requires-clause-free c =
+    back_free c.args.self.now c.take_back-decision.new.self.trail.items c.args.level c.take_back-decision.result c.requires.ground
+    (let some = c.requires.some in let above : 0 < c.args.level = omega arith in above) c.take_back-decision.ensures.decided c.take_back-decision.ensures.items
 
 pub returns : goal.returns
 returns c =
-    let none : Item = record { lit = pos 0; level = 0; kind = Assumed } in
-    let d : Item = get_or c.items.result.now c.decision.result none in
-    let known = decision_at c.args.self.now.trail c.items.result.now c.args.level c.decision.result none c.items.ensures.trail c.decision.ensures c.items.ensures.items in
-    record {
-      turns = record {
-        decision = d;
-        decided = known.0;
-        items = c.assign.ensures.items
-            ∙ ap (λ (z : ℤ). c.backtrack.new.self.items ++ record { lit = z; level = c.args.level - 1; kind = Flipped } ∷ []) (negated d.lit known.1)
-            ∙ ap (λ xs. xs ++ record { lit = neg_ℤ d.lit; level = c.args.level - 1; kind = Flipped } ∷ []) c.backtrack.ensures.items;
-        current = c.assign.ensures.level ∙ c.backtrack.ensures.level;
-        variables = c.assign.ensures.variables ∙ c.backtrack.ensures.variables;
-        seen = c.assign.ensures.seen ∙ c.backtrack.ensures.seen;
-        stands = c.assign.ensures.trail;
-      };
-      shown_again = c.none-self.ensures.shown;
-      again = c.none-self.ensures.variable;
-      rest = refl;
-      told = c.is_shown.ensures
-          ∙ ap (λ p. is_among p c.unsigned_abs.result) c.as_slice.ensures.value
-          ∙ ap (is_among c.args.self.now.shown.items) (c.unsigned_abs.ensures.value ∙ nat_abs-bits d.lit (literal_fits d.lit known.1));
-    }
+    flipped c.args.self.now c.take_back-decision.new.self c.put_other.new.self c.args.level c.take_back-decision.result c.put_other.result c.requires.ground
+    c.take_back-decision.ensures c.put_other.ensures

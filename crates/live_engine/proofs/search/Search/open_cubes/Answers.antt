@@ -9,8 +9,8 @@ use Rattle.chrono_trail.specs.declared.item.Item.{Item}
 use Rattle.chrono_trail.specs.Pictures.{pictured, picture_of}
 use Rattle.chrono_trail.proofs.Pictures.{picture-push}
 use Rattle.live_engine.specs.Marks.{AreMarkedBy}
-use Rattle.live_engine.proofs.Literals.{literal_fits, negated}
-use Rattle.live_engine.proofs.Tops.{item_small, item_low}
+use Rattle.live_engine.proofs.Literals.{literal_fits, negated, negation_fits}
+use Rattle.live_engine.proofs.Literals.{item_small, item_low}
 use Rattle.live_engine.proofs.Marking.{AreMarkedBeside, HasSided, marks_cube, marked, plain_is, beside, set_beside, side_marked, open_step, shut_step}
 use Rattle.live_engine.proofs.search.Search.open_cubes.Goals as goal
 use Rattle.live_engine.proofs.search.Search.open_cubes.Goals.{then-is_open+in_ok-marked_cube+in_ok-push, else-is_open}
@@ -137,3 +137,30 @@ returns c =
     c.in_ok-push-2.ensures.items ∙ ap (λ x. c.loop-item.cubes.items ++ x ∷ []) here
     ∙ ap (λ xs. xs ++ front_cube (picture_of s.arena.clauses (take c.loop-item.item-index s.trail.items)) s.shown.items ∷ []) c.loop-item.invariant.cubes
     ∙ ap (left_cubes s.shown.items s.base) whole
+
+small_at : (c : goal.After-mark-arg-1) → let e : Item = get_or c.items-item-items.result.now c.loop-item.item-index (record { lit = pos 0; level = 0; kind = Assumed }) in (nat_abs e.lit < 2 ^ 31) × (nat_abs e.lit ≤ c.args.self.now.trail.variables)
+small_at c =
+    let s = c.args.self.now in
+    let items = s.trail.items in
+    let i : ℕ = c.loop-item.item-index in
+    let none : Item = record { lit = pos 0; level = 0; kind = Assumed } in
+    let same = c.items-item-items.ensures.items in
+    let inside = subst (λ xs. i < length xs) same c.loop-item-test.true in (
+      subst (λ xs. nat_abs (get_or xs i none).lit < 2 ^ 31) (sym same) (item_small s.trail.variables items s.trail.level i none c.items-item-items.ensures.trail inside),
+      subst (λ xs. nat_abs (get_or xs i none).lit ≤ s.trail.variables) (sym same) (item_low s.trail.variables items s.trail.level i none c.items-item-items.ensures.trail inside),
+    )
+
+pub overflow_sub-item : goal.overflow_sub-item
+overflow_sub-item c =
+    let e : Item = get_or c.items-item-items.result.now c.loop-item.item-index (record { lit = pos 0; level = 0; kind = Assumed }) in
+    negation_fits e.lit (small_at c).0
+
+pub mark-requires : goal.mark-requires
+mark-requires c =
+    let e : Item = get_or c.items-item-items.result.now c.loop-item.item-index (record { lit = pos 0; level = 0; kind = Assumed }) in
+    let both = small_at c in
+    let low = both.1 in
+    let wide = c.requires.ground.trail in
+    let long = c.loop-item.invariant.long in
+    let at : c.unsigned_abs.result ≡ nat_abs e.lit = c.unsigned_abs.ensures.value ∙ nat_abs-bits e.lit (literal_fits e.lit both.0) in
+    omega arith
