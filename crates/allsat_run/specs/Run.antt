@@ -25,7 +25,8 @@ pub record IsWritten (before now : SinkView) (text : List ℕ) : Type 0 where
 pub record Solves (left : Option (List ℕ)) (taken : List ℕ) (cubes : List (List ℤ)) : Type 0 where
   pub input : Input
   pub text : IsInput left taken input
-  pub right : IsRightList input.subject.formula.clauses input.subject.shown cubes
+  pub right : IsRightList input.subject.formula.clauses input.subject.shown input.subject.under
+      cubes
 
 -- the listing of such a list is written
 pub record IsFinished (left : Option (List ℕ)) (taken : List ℕ) (before now : SinkView) :

@@ -3,11 +3,11 @@ ghost use Rattle.std.specs.Prelude.{◌≡◌, ◌≢◌, ◌↔◌};
 ghost use Rattle.allsat_run.specs.Run.{Answers, Completes, Notes, WritesOut};
 ghost use Rattle.allsat_run.specs.Words.{IsEnumerate};
 
+use crate::search::list_cubes;
 use crate::{Ended, Status, Words, write_note};
 use cube_text::write_listing;
 use dimacs_front::{ReadRefused, read_subject};
 use fault_io::{Sink, Source};
-use plain_search::enumerate_plain;
 use sat_terms::{Cube, Items};
 use std::alloc::Global;
 use std::sync::Wait;
@@ -53,7 +53,7 @@ pub fn enumerate_alone<S: Source, K: Sink>(alloc: Global, input: &mut S, out: &m
         Err(ReadRefused::ReadFault(line)) => return Status::ReadFault(line),
         Err(ReadRefused::OutOfMemory(_)) => return Status::OutOfMemory,
     };
-    match enumerate_plain(alloc, &subject) {
+    match list_cubes(alloc, &subject) {
         Ok(cubes) => write_out(&Items::from_vec(cubes), out),
         Err(_) => Status::OutOfMemory,
     }

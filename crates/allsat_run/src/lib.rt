@@ -3,6 +3,7 @@
 
 mod enumerate;
 mod notes;
+mod search;
 mod status;
 mod words;
 
