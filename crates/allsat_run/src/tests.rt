@@ -140,10 +140,12 @@ fn with_nothing_shown_a_contradiction_gives_no_cube(rt: HostRuntime) -> Result<(
     Ok(())
 }
 
+/// With 1 and 2 false the hidden variable 4 has no value. That teaches the clause `2`, which stands
+/// by no decision, so that one cube without 1 holds both solutions.
 #[test]
-fn a_cube_is_as_short_as_the_chosen_hidden_values_allow(rt: HostRuntime) -> Result<(), Fail> {
+fn what_a_conflict_teaches_makes_the_next_cube_short(rt: HostRuntime) -> Result<(), Fail> {
     let text = b"p cnf 4 2\nc p show 1 2 0\n2 4 0\n2 -4 0\n";
-    assert!(rt; lists(&run_on(&rt, text)?, b"v -1 2 0\nv 1 2 0\ns ALL\n"));
+    assert!(rt; lists(&run_on(&rt, text)?, b"v 2 0\ns ALL\n"));
     Ok(())
 }
 
