@@ -6,17 +6,17 @@ use Rattle.std.proofs.lemmas.List.{take_more, take-append-drop, length-drop, get
 use Rattle.std.proofs.lemmas.List.Folds.{list_any-append}
 use Rattle.search_region.proofs.Back.{all_in_filter}
 use Rattle.chrono_trail.specs.declared.item.Item.{Item}
-use Rattle.chrono_trail.specs.Items.{item_of, is_within, are_distinct, is_decided, level_after, depth_from, may_stand, may_all_stand, upto, HasPlace, goes}
+use Rattle.chrono_trail.specs.Items.{item_of, is_within, are_distinct, is_decision, level_after, depth_from, may_stand, may_all_stand, is_upto, HasPlace, goes}
 use Rattle.chrono_trail.specs.Trails.{IsTrail}
 use Rattle.chrono_trail.proofs.Items.{none_is, is_none_from, depth_from-append}
 
-low_after : (k : ℕ) (i : Item) → is_decided i.kind ≡ false → level_after k i ≡ k
+low_after : (k : ℕ) (i : Item) → is_decision i.kind ≡ false → level_after k i ≡ k
 low_after k i h = rw h refl
 
 -- what may stand after what
 pub level_rises : (k : ℕ) (i : Item) → may_stand k i ≡ true → k ≤ level_after k i
 level_rises k i h =
-    elim (cases_Bool (is_decided i.kind)) [
+    elim (cases_Bool (is_decision i.kind)) [
       | inl yes_decided ↦
           let same : nat_eq i.level (suc k) ≡ true = rw yes_decided at h in
           let level = eqb-true i.level (suc k) same in
@@ -35,7 +35,7 @@ depth_rises k (i ∷ later) h =
 
 pub low_item : (k m : ℕ) (i : Item) → may_stand k i ≡ true → level_after k i ≤ m → i.level ≤ m
 low_item k m i h low =
-    elim (cases_Bool (is_decided i.kind)) [
+    elim (cases_Bool (is_decision i.kind)) [
       | inl yes_decided ↦ let after : level_after k i ≡ i.level = rw yes_decided refl in omega arith
       | inr not_decided ↦
           let under : nat_le i.level k ≡ true = rw not_decided at h in
@@ -45,12 +45,12 @@ low_item k m i h low =
     ]
 
 -- no item is above the level that is current after all
-pub all_low : (k m : ℕ) (items : List Item) → may_all_stand k items ≡ true → depth_from k items ≤ m → list_all (upto m) items ≡ true
+pub all_low : (k m : ℕ) (items : List Item) → may_all_stand k items ≡ true → depth_from k items ≤ m → list_all (is_upto m) items ≡ true
 all_low k m [] h low = refl
 all_low k m (i ∷ later) h low =
     let (now, rest) = and_parts (may_stand k i) (may_all_stand (level_after k i) later) h in
     let more = depth_rises (level_after k i) later rest in
-    and_from (upto m i) (list_all (upto m) later) (le-leb i.level m (low_item k m i now (omega arith))) (all_low (level_after k i) m later rest low)
+    and_from (is_upto m i) (list_all (is_upto m) later) (le-leb i.level m (low_item k m i now (omega arith))) (all_low (level_after k i) m later rest low)
 
 pub stand_take : (k n : ℕ) (items : List Item) → may_all_stand k items ≡ true → may_all_stand k (take n items) ≡ true
 stand_take k zero items h = refl
@@ -81,13 +81,13 @@ depth_nothing items zero m h some = absurd (omega arith)
 depth_nothing items (suc n) m h some = omega arith
 
 -- once a level above m is open, what stays is below
-stay_above : (k m : ℕ) (items : List Item) → may_all_stand k items ≡ true → m < k → (may_all_stand m (filter (upto m) items) ≡ true) × (depth_from m (filter (upto m) items) ≡ m)
+stay_above : (k m : ℕ) (items : List Item) → may_all_stand k items ≡ true → m < k → (may_all_stand m (filter (is_upto m) items) ≡ true) × (depth_from m (filter (is_upto m) items) ≡ m)
 stay_above k m [] h above = (refl, refl)
 stay_above k m (i ∷ later) h above =
     let (now, rest) = and_parts (may_stand k i) (may_all_stand (level_after k i) later) h in
     let rises = level_rises k i now in
     let more = stay_above (level_after k i) m later rest (omega arith) in
-    elim (cases_Bool (is_decided i.kind)) [
+    elim (cases_Bool (is_decision i.kind)) [
       | inl yes_decided ↦
           let same : nat_eq i.level (suc k) ≡ true = rw yes_decided at now in
           let level = eqb-true i.level (suc k) same in
@@ -95,17 +95,17 @@ stay_above k m (i ∷ later) h above =
           rw goes more
       | inr not_decided ↦
           elim (cases_Bool (nat_le i.level m)) [
-            | inl stays ↦ (rw (stays, not_decided) (rw stays more.0), rw stays (ap (λ j. depth_from j (filter (upto m) later)) (low_after m i not_decided) ∙ more.1))
+            | inl stays ↦ (rw (stays, not_decided) (rw stays more.0), rw stays (ap (λ j. depth_from j (filter (is_upto m) later)) (low_after m i not_decided) ∙ more.1))
             | inr leaves ↦ rw leaves more
           ]
     ]
 
 -- what stays stands, and the level that is current then is m
-pub stay : (k m : ℕ) (items : List Item) → may_all_stand k items ≡ true → k ≤ m → m ≤ depth_from k items → (may_all_stand k (filter (upto m) items) ≡ true) × (depth_from k (filter (upto m) items) ≡ m)
+pub stay : (k m : ℕ) (items : List Item) → may_all_stand k items ≡ true → k ≤ m → m ≤ depth_from k items → (may_all_stand k (filter (is_upto m) items) ≡ true) × (depth_from k (filter (is_upto m) items) ≡ m)
 stay k m [] h low high = (refl, omega arith)
 stay k m (i ∷ later) h low high =
     let (now, rest) = and_parts (may_stand k i) (may_all_stand (level_after k i) later) h in
-    elim (cases_Bool (is_decided i.kind)) [
+    elim (cases_Bool (is_decision i.kind)) [
       | inl yes_decided ↦
           let same : nat_eq i.level (suc k) ≡ true = rw yes_decided at now in
           let level = eqb-true i.level (suc k) same in
@@ -114,13 +114,13 @@ stay k m (i ∷ later) h low high =
             | inl stays ↦
                 let le = leb-true i.level m stays in
                 let more = stay (level_after k i) m later rest (omega arith) high in
-                let more_here : (may_all_stand i.level (filter (upto m) later) ≡ true) × (depth_from i.level (filter (upto m) later) ≡ m) = subst (λ j. (may_all_stand j (filter (upto m) later) ≡ true) × (depth_from j (filter (upto m) later) ≡ m)) after more in
+                let more_here : (may_all_stand i.level (filter (is_upto m) later) ≡ true) × (depth_from i.level (filter (is_upto m) later) ≡ m) = subst (λ j. (may_all_stand j (filter (is_upto m) later) ≡ true) × (depth_from j (filter (is_upto m) later) ≡ m)) after more in
                 (rw (stays, yes_decided) (rw same more_here.0), rw stays more.1)
             | inr leaves ↦
                 let gt = leb-false i.level m leaves in
                 let equal : m ≡ k = omega arith in
                 let more = stay_above (level_after k i) m later rest (omega arith) in
-                rw leaves (subst (λ j. (may_all_stand j (filter (upto m) later) ≡ true) × (depth_from j (filter (upto m) later) ≡ m)) equal more)
+                rw leaves (subst (λ j. (may_all_stand j (filter (is_upto m) later) ≡ true) × (depth_from j (filter (is_upto m) later) ≡ m)) equal more)
           ]
       | inr not_decided ↦
           let under : nat_le i.level k ≡ true = rw not_decided at now in
@@ -128,7 +128,7 @@ stay k m (i ∷ later) h low high =
           let after : level_after k i ≡ k = rw not_decided refl in
           let stays : nat_le i.level m ≡ true = le-leb i.level m (omega arith) in
           let more = stay (level_after k i) m later rest (omega arith) high in
-          let more_here : (may_all_stand k (filter (upto m) later) ≡ true) × (depth_from k (filter (upto m) later) ≡ m) = subst (λ j. (may_all_stand j (filter (upto m) later) ≡ true) × (depth_from j (filter (upto m) later) ≡ m)) after more in
+          let more_here : (may_all_stand k (filter (is_upto m) later) ≡ true) × (depth_from k (filter (is_upto m) later) ≡ m) = subst (λ j. (may_all_stand j (filter (is_upto m) later) ≡ true) × (depth_from j (filter (is_upto m) later) ≡ m)) after more in
           (rw (stays, not_decided) (rw under more_here.0), rw stays more.1)
     ]
 
@@ -156,14 +156,14 @@ distinct_stay p (i ∷ later) h =
       | inr leaves ↦ rw leaves (distinct_stay p later rest)
     ]
 
-pub trail_back : (n : ℕ) (items : List Item) (level m : ℕ) → IsTrail n items level → m ≤ level → IsTrail n (filter (upto m) items) m
+pub trail_back : (n : ℕ) (items : List Item) (level m : ℕ) → IsTrail n items level → m ≤ level → IsTrail n (filter (is_upto m) items) m
 trail_back n items level m t low =
     let current = t.current in
     let stays = stay 0 m items t.stands (omega arith) (omega arith) in
     record {
       small = t.small;
-      within = all_in_filter (is_within n) (upto m) items t.within;
-      distinct = distinct_stay (upto m) items t.distinct;
+      within = all_in_filter (is_within n) (is_upto m) items t.within;
+      distinct = distinct_stay (is_upto m) items t.distinct;
       stands = stays.0;
       current = sym stays.1;
     }
@@ -178,7 +178,7 @@ none_goes k (i ∷ later) v h =
     ]
 
 -- what the table tells where the places of the items above m were emptied
-pub tells_back : (m : ℕ) (items : List Item) (v : ℕ) → are_distinct items ≡ true → item_of (filter (upto m) items) v ≡ cond (goes (m + 1) items v) None (item_of items v)
+pub tells_back : (m : ℕ) (items : List Item) (v : ℕ) → are_distinct items ≡ true → item_of (filter (is_upto m) items) v ≡ cond (goes (m + 1) items v) None (item_of items v)
 tells_back m [] v h = refl
 tells_back m (i ∷ later) v h =
     let (alone, rest) = and_parts (is_none (item_of later (nat_abs i.lit))) (are_distinct later) h in
@@ -195,7 +195,7 @@ tells_back m (i ∷ later) v h =
             | inr leaves ↦
                 let gt = leb-false i.level m leaves in
                 let gone : nat_le (m + 1) i.level ≡ true = le-leb (m + 1) i.level (omega arith) in
-                rw (leaves, same) (rw gone (none_stays (upto m) later v none))
+                rw (leaves, same) (rw gone (none_stays (is_upto m) later v none))
           ]
       | inr other ↦
           elim (cases_Bool (nat_le i.level m)) [
@@ -214,14 +214,14 @@ tells_cleared (i ∷ later) v =
     ]
 
 -- the items before a place where all are low lose nothing
-low_stay : (m : ℕ) (items : List Item) (v : ℕ) → list_all (upto m) items ≡ true → goes (m + 1) items v ≡ false
+low_stay : (m : ℕ) (items : List Item) (v : ℕ) → list_all (is_upto m) items ≡ true → goes (m + 1) items v ≡ false
 low_stay m [] v h = refl
 low_stay m (i ∷ later) v h =
-    let (now, rest) = and_parts (upto m i) (list_all (upto m) later) h in
+    let (now, rest) = and_parts (is_upto m i) (list_all (is_upto m) later) h in
     let le = leb-true i.level m now in
     or_from (nat_eq v (nat_abs i.lit) && nat_le (m + 1) i.level) (goes (m + 1) later v) (and_right (nat_eq v (nat_abs i.lit)) (nat_le (m + 1) i.level) (lt-leb (m + 1) i.level (omega arith))) (low_stay m later v rest)
 
-pub goes_after : (m n : ℕ) (items : List Item) (v : ℕ) → list_all (upto m) (take n items) ≡ true → goes (m + 1) (drop n items) v ≡ goes (m + 1) items v
+pub goes_after : (m n : ℕ) (items : List Item) (v : ℕ) → list_all (is_upto m) (take n items) ≡ true → goes (m + 1) (drop n items) v ≡ goes (m + 1) items v
 goes_after m n items v h =
     sym (ap (λ xs. goes (m + 1) xs v) (sym (take-append-drop n items))
     ∙ list_any-append (λ i. nat_eq v (nat_abs i.lit) && nat_le (m + 1) i.level) (take n items) (drop n items)

@@ -9,7 +9,7 @@ use Rattle.sat_terms.specs.Cubes.{has_literal}
 use Rattle.sat_terms.proofs.CubeLemmas.{nat_abs-neg, int_eq-same, int_eq-true, int_eq-other, neg-not_same}
 use Rattle.search_region.proofs.Literals.{same_variable, test_from_same, all_weaker}
 use Rattle.chrono_trail.specs.declared.item.Item.{Item}
-use Rattle.chrono_trail.specs.Items.{item_of, value_in, level_in, are_distinct, upto}
+use Rattle.chrono_trail.specs.Items.{item_of, value_in, level_in, are_distinct, is_upto}
 use Rattle.chrono_trail.specs.Clauses.{is_false, is_or_false, IsUnit, level_or_zero, rest_level}
 use Rattle.chrono_trail.proofs.Items.{none_is}
 use Rattle.chrono_trail.specs.Clauses.{IsAtRest}
@@ -196,16 +196,16 @@ rest_level-push items l (k ∷ c) m =
     rw before (omega arith)
 
 -- no level of a rest is above the current one
-low_level : (items : List Item) (v k : ℕ) → list_all (upto k) items ≡ true → level_or_zero (item_of items v) ≤ k
+low_level : (items : List Item) (v k : ℕ) → list_all (is_upto k) items ≡ true → level_or_zero (item_of items v) ≤ k
 low_level [] v k h = omega arith
 low_level (i ∷ later) v k h =
-    let (now, rest) = and_parts (upto k i) (list_all (upto k) later) h in
+    let (now, rest) = and_parts (is_upto k i) (list_all (is_upto k) later) h in
     elim (cases_Bool (nat_eq v (nat_abs i.lit))) [
       | inl same ↦ rw same (leb-true i.level k now)
       | inr other ↦ rw other (low_level later v k rest)
     ]
 
-pub low_rest : (items : List Item) (l : ℤ) (k : ℕ) (c : List ℤ) → list_all (upto k) items ≡ true → rest_level items l c ≤ k
+pub low_rest : (items : List Item) (l : ℤ) (k : ℕ) (c : List ℤ) → list_all (is_upto k) items ≡ true → rest_level items l c ≤ k
 low_rest items l k [] h = omega arith
 low_rest items l k (m ∷ c) h =
     let more = low_rest items l k c h in

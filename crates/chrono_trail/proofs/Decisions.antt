@@ -3,23 +3,23 @@ use Rattle.std.proofs.Common.{◌≡◌, ℕ, zero, suc, ◌+◌, ◌-◌, ◌<�
 use Rattle.std.specs.List.{list_all}
 use Rattle.std.proofs.lemmas.Bool.{and_parts, and_from, and_right, cases_Bool, cases_eq, eq-eqb, eqb-true, ne_eqb, leb-true, le-leb, lt-leb}
 use Rattle.chrono_trail.specs.declared.item.Item.{Item}
-use Rattle.chrono_trail.specs.Items.{is_decided, decides, level_after, depth_from, may_stand, may_all_stand, upto, decisions_from, IsDecisionAt, IsAboveAt}
+use Rattle.chrono_trail.specs.Items.{is_decision, decides, level_after, depth_from, may_stand, may_all_stand, is_upto, decisions_from, IsDecisionAt, IsAboveAt}
 use Rattle.chrono_trail.proofs.Back.{level_rises}
 use Rattle.chrono_trail.proofs.Levels.{opened}
 
 -- an appended item
-pub decisions-push : (n : ℕ) (items : List Item) (e : Item) → decisions_from n (items ++ e ∷ []) ≡ decisions_from n items ++ cond (is_decided e.kind) ((n + length items) ∷ []) []
+pub decisions-push : (n : ℕ) (items : List Item) (e : Item) → decisions_from n (items ++ e ∷ []) ≡ decisions_from n items ++ cond (is_decision e.kind) ((n + length items) ∷ []) []
 decisions-push n [] e =
-    elim (cases_Bool (is_decided e.kind)) [
+    elim (cases_Bool (is_decision e.kind)) [
       | inl deciding ↦ rw deciding (ap (λ k. k ∷ []) (omega arith))
       | inr other ↦ rw other refl
     ]
 decisions-push n (i ∷ later) e =
     let more = decisions-push (suc n) later e in
     let same : suc n + length later ≡ n + suc (length later) = omega arith in
-    elim (cases_Bool (is_decided i.kind)) [
-      | inl deciding ↦ rw deciding (ap (λ xs. n ∷ xs) (more ∙ ap (λ k. decisions_from (suc n) later ++ cond (is_decided e.kind) (k ∷ []) []) same))
-      | inr other ↦ rw other (more ∙ ap (λ k. decisions_from (suc n) later ++ cond (is_decided e.kind) (k ∷ []) []) same)
+    elim (cases_Bool (is_decision i.kind)) [
+      | inl deciding ↦ rw deciding (ap (λ xs. n ∷ xs) (more ∙ ap (λ k. decisions_from (suc n) later ++ cond (is_decision e.kind) (k ∷ []) []) same))
+      | inr other ↦ rw other (more ∙ ap (λ k. decisions_from (suc n) later ++ cond (is_decision e.kind) (k ∷ []) []) same)
     ]
 
 -- there is one for each level
@@ -28,7 +28,7 @@ decisions_count k n [] h = omega arith
 decisions_count k n (i ∷ later) h =
     let (now, rest) = and_parts (may_stand k i) (may_all_stand (level_after k i) later) h in
     let more = decisions_count (level_after k i) (suc n) later rest in
-    elim (cases_Bool (is_decided i.kind)) [
+    elim (cases_Bool (is_decision i.kind)) [
       | inl deciding ↦
           let level = opened k i now deciding in
           let after : level_after k i ≡ i.level = rw deciding refl in
@@ -47,7 +47,7 @@ pub record Told (k j n : ℕ) (items : List Item) : Type 0 where
   pub decision : IsDecisionAt j items place
 
 -- one item more before the decision
-told_after : (k m j n : ℕ) (i : Item) (later : List Item) → decides j i ≡ false → upto (j - 1) i ≡ true →
+told_after : (k m j n : ℕ) (i : Item) (later : List Item) → decides j i ≡ false → is_upto (j - 1) i ≡ true →
     get_or (decisions_from n (i ∷ later)) (j - suc k) 0 ≡ get_or (decisions_from (suc n) later) (j - suc m) 0 →
     Told m j (suc n) later → Told k j n (i ∷ later)
 told_after k m j n i later other low same h =
@@ -59,7 +59,7 @@ told_after k m j n i later other low same h =
         inside = let within = h.decision.inside in omega arith;
         opens = h.decision.opens;
         found = rw other h.decision.found;
-        low = and_from (upto (j - 1) i) (list_all (upto (j - 1)) (take h.place later)) low h.decision.low;
+        low = and_from (is_upto (j - 1) i) (list_all (is_upto (j - 1)) (take h.place later)) low h.decision.low;
       };
     }
 
@@ -67,13 +67,13 @@ pub decision_told : (k j n : ℕ) (items : List Item) → may_all_stand k items 
 decision_told k j n [] h above low = absurd (omega arith)
 decision_told k j n (i ∷ later) h above low =
     let (now, rest) = and_parts (may_stand k i) (may_all_stand (level_after k i) later) h in
-    elim (cases_Bool (is_decided i.kind)) [
+    elim (cases_Bool (is_decision i.kind)) [
       | inl deciding ↦
           let level = opened k i now deciding in
           let after : level_after k i ≡ i.level = rw deciding refl in
           elim (cases_eq i.level j) [
             | inl same ↦
-                let decides_here : decides j i ≡ true = and_from (is_decided i.kind) (nat_eq i.level j) deciding (eq-eqb i.level j same) in
+                let decides_here : decides j i ≡ true = and_from (is_decision i.kind) (nat_eq i.level j) deciding (eq-eqb i.level j same) in
                 let first : j - suc k ≡ 0 = omega arith in
                 record {
                   place = 0;
@@ -81,7 +81,7 @@ decision_told k j n (i ∷ later) h above low =
                   decision = record { inside = omega arith; opens = λ d. decides_here; found = rw decides_here refl; low = refl };
                 }
             | inr differs ↦
-                let other : decides j i ≡ false = and_right (is_decided i.kind) (nat_eq i.level j) (ne_eqb i.level j differs) in
+                let other : decides j i ≡ false = and_right (is_decision i.kind) (nat_eq i.level j) (ne_eqb i.level j differs) in
                 let next : j - suc k ≡ suc (j - suc i.level) = omega (arith, differs) in
                 told_after k (level_after k i) j n i later other (le-leb i.level (j - 1) (omega (arith, differs)))
                 (rw (deciding, next) refl)
@@ -100,17 +100,17 @@ decision_told k j n (i ∷ later) h above low =
 -- the item at that place is above the level before
 pub decision_above : (k : ℕ) (items : List Item) (n : ℕ) → IsDecisionAt (k + 1) items n → IsAboveAt k items n
 decision_above k items n h d inside =
-    let (deciding, same) = and_parts (is_decided (get_or items n d).kind) (nat_eq (get_or items n d).level (k + 1)) (h.opens d) in
+    let (deciding, same) = and_parts (is_decision (get_or items n d).kind) (nat_eq (get_or items n d).level (k + 1)) (h.opens d) in
     let level = eqb-true (get_or items n d).level (k + 1) same in
     lt-leb (get_or items n d).level k (omega arith)
 
 -- no decision stays above a level that was open before
-none_left : (k m n : ℕ) (items : List Item) → may_all_stand k items ≡ true → m ≤ k → decisions_from n (filter (upto m) items) ≡ []
+none_left : (k m n : ℕ) (items : List Item) → may_all_stand k items ≡ true → m ≤ k → decisions_from n (filter (is_upto m) items) ≡ []
 none_left k m n [] h low = refl
 none_left k m n (i ∷ later) h low =
     let (now, rest) = and_parts (may_stand k i) (may_all_stand (level_after k i) later) h in
     let rises = level_rises k i now in
-    elim (cases_Bool (is_decided i.kind)) [
+    elim (cases_Bool (is_decision i.kind)) [
       | inl deciding ↦
           let level = opened k i now deciding in
           let gone : nat_le i.level m ≡ false = lt-leb i.level m (omega arith) in
@@ -123,12 +123,12 @@ none_left k m n (i ∷ later) h low =
     ]
 
 -- the places of those that stay, where j levels stay
-pub decisions_back : (k m j n : ℕ) (items : List Item) → may_all_stand k items ≡ true → k + j ≡ m → decisions_from n (filter (upto m) items) ≡ take j (decisions_from n items)
+pub decisions_back : (k m j n : ℕ) (items : List Item) → may_all_stand k items ≡ true → k + j ≡ m → decisions_from n (filter (is_upto m) items) ≡ take j (decisions_from n items)
 decisions_back k m zero n items h sum = none_left k m n items h (omega arith)
 decisions_back k m (suc j) n [] h sum = refl
 decisions_back k m (suc j) n (i ∷ later) h sum =
     let (now, rest) = and_parts (may_stand k i) (may_all_stand (level_after k i) later) h in
-    elim (cases_Bool (is_decided i.kind)) [
+    elim (cases_Bool (is_decision i.kind)) [
       | inl deciding ↦
           let level = opened k i now deciding in
           let after : level_after k i ≡ i.level = rw deciding refl in

@@ -2,7 +2,7 @@
 use Rattle.std.proofs.Common.{◌≡◌, ℕ, suc, ◌+◌, ◌≤◌, true, cond, nat_eq, List, [], ◌∷◌, ◌++◌, length, Option, Some, None, nat_abs, is_none, refl, sym, ◌∙◌, inl, inr, arith}
 use Rattle.std.proofs.lemmas.Bool.{and_parts, and_from, cases_Bool, eqb-true, eqb-false, ne_eqb}
 use Rattle.chrono_trail.specs.declared.item.Item.{Item}
-use Rattle.chrono_trail.specs.Items.{item_of, are_distinct, is_decided, level_after, depth_from, may_stand, may_all_stand}
+use Rattle.chrono_trail.specs.Items.{item_of, are_distinct, is_decision, level_after, depth_from, may_stand, may_all_stand}
 
 pub none_is : (o : Option Item) → is_none o ≡ true → o ≡ None
 none_is None h = refl
@@ -54,7 +54,7 @@ depth_bound k [] h = omega arith
 depth_bound k (i ∷ later) h =
     let (now, rest) = and_parts (may_stand k i) (may_all_stand (level_after k i) later) h in
     let bound = depth_bound (level_after k i) later rest in
-    elim (cases_Bool (is_decided i.kind)) [
+    elim (cases_Bool (is_decision i.kind)) [
       | inl yes_decided ↦
           let same : nat_eq i.level (suc k) ≡ true = rw yes_decided at now in
           let level = eqb-true i.level (suc k) same in

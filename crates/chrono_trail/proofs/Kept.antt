@@ -3,7 +3,7 @@ use Rattle.std.proofs.Common.{◌≡◌, ℕ, zero, suc, ◌+◌, ◌-◌, ◌<�
 use Rattle.std.specs.List.{list_all}
 use Rattle.std.proofs.lemmas.Bool.{cases_Bool, and_parts, and_from}
 use Rattle.chrono_trail.specs.declared.item.Item.{Item}
-use Rattle.chrono_trail.specs.Items.{goes, upto}
+use Rattle.chrono_trail.specs.Items.{goes, is_upto}
 use Rattle.chrono_trail.specs.Trails.{IsTrail, IsKept}
 use Rattle.chrono_trail.proofs.Back.{trail_back, tells_back, tells_cleared}
 use Rattle.chrono_trail.proofs.Decisions.{decisions_count, decisions_back}
@@ -16,13 +16,13 @@ kept_count {items} k =
     let stack = ap length k.stack in
     omega arith
 
-pub kept_back : (items : List Item) (given now : List (Option Item)) (decided : List ℕ) (seen now_seen level wide deep wide_now deep_now m : ℕ) → IsKept items given decided seen level wide deep → m ≤ level → length now ≡ length given → wide_now ≡ wide → deep_now ≡ deep → ((v : ℕ) → get_or now v None ≡ cond (goes (m + 1) items v) None (get_or given v None)) → now_seen ≤ length (filter (upto m) items) → IsKept (filter (upto m) items) now (take m decided) now_seen m wide_now deep_now
+pub kept_back : (items : List Item) (given now : List (Option Item)) (decided : List ℕ) (seen now_seen level wide deep wide_now deep_now m : ℕ) → IsKept items given decided seen level wide deep → m ≤ level → length now ≡ length given → wide_now ≡ wide → deep_now ≡ deep → ((v : ℕ) → get_or now v None ≡ cond (goes (m + 1) items v) None (get_or given v None)) → now_seen ≤ length (filter (is_upto m) items) → IsKept (filter (is_upto m) items) now (take m decided) now_seen m wide_now deep_now
 kept_back items given now decided seen now_seen level wide deep wide_now deep_now m k low long same_wide same_deep empties few =
     let places = k.places in
     let room = k.room in
     let depth_room = k.depth_room in
     record {
-      trail = subst (λ n. IsTrail (n - 1) (filter (upto m) items) m) (sym long) (trail_back (length given - 1) items level m k.trail low);
+      trail = subst (λ n. IsTrail (n - 1) (filter (is_upto m) items) m) (sym long) (trail_back (length given - 1) items level m k.trail low);
       places = omega arith;
       tells = λ v h. empties v ∙ ap (cond (goes (m + 1) items v) None) (k.tells v (omega arith)) ∙ sym (tells_back m items v k.trail.distinct);
       stack = ap (take m) k.stack ∙ sym (decisions_back 0 m m 0 items k.trail.stands (omega arith));

@@ -4,13 +4,13 @@ use Rattle.std.proofs.Common.{◌≡◌, ℕ, suc, ◌+◌, ◌-◌, ◌<◌, �
 use Rattle.std.specs.List.{list_any, range_with_len}
 use Rattle.std.proofs.lemmas.Bool.{and_parts, and_from, and_right, or_from, cases_Bool, cases_eq, eqb-true, eq-eqb, ne_eqb}
 use Rattle.chrono_trail.specs.declared.item.Item.{Item}
-use Rattle.chrono_trail.specs.Items.{is_decided, decides, level_after, depth_from, may_stand, may_all_stand}
+use Rattle.chrono_trail.specs.Items.{is_decision, decides, level_after, depth_from, may_stand, may_all_stand}
 use Rattle.chrono_trail.specs.Laws.{decision_levels, HasOneDecision}
 use Rattle.chrono_trail.proofs.Items.{depth_from-append}
 use Rattle.chrono_trail.proofs.Back.{level_rises, depth_rises, low_item}
 
 -- a decision opens the next level
-pub opened : (k : ℕ) (i : Item) → may_stand k i ≡ true → is_decided i.kind ≡ true → i.level ≡ suc k
+pub opened : (k : ℕ) (i : Item) → may_stand k i ≡ true → is_decision i.kind ≡ true → i.level ≡ suc k
 opened k i stands deciding =
     let same : nat_eq i.level (suc k) ≡ true = rw deciding at stands in
     eqb-true i.level (suc k) same
@@ -28,11 +28,11 @@ none_later k j (i ∷ later) h low =
     parts = and_parts (may_stand k i) (may_all_stand (level_after k i) later) h
 
     here : decides j i ≡ false
-    here = elim (cases_Bool (is_decided i.kind)) [
+    here = elim (cases_Bool (is_decision i.kind)) [
       | inl deciding ↦
           let level = opened k i parts.0 deciding in
           let other = ne_eqb i.level j (λ same. omega arith) in
-          and_right (is_decided i.kind) (nat_eq i.level j) other
+          and_right (is_decision i.kind) (nat_eq i.level j) other
       | inr other_kind ↦ ap (λ b. b && nat_eq i.level j) other_kind
     ]
 
@@ -54,7 +54,7 @@ pub one_decision : (k j : ℕ) (items : List Item) → may_all_stand k items ≡
 one_decision k j [] h above low = absurd (omega arith)
 one_decision k j (i ∷ later) h above low =
     let (now, rest) = and_parts (may_stand k i) (may_all_stand (level_after k i) later) h in
-    elim (cases_Bool (is_decided i.kind)) [
+    elim (cases_Bool (is_decision i.kind)) [
       | inl deciding ↦
           let level = opened k i now deciding in
           let after : level_after k i ≡ i.level = rw deciding refl in
@@ -66,13 +66,13 @@ one_decision k j (i ∷ later) h above low =
                   decision = i;
                   after = later;
                   parts = refl;
-                  opens = and_from (is_decided i.kind) (nat_eq i.level j) deciding equal;
+                  opens = and_from (is_decision i.kind) (nat_eq i.level j) deciding equal;
                   none_before = refl;
                   none_after = none_later (level_after k i) j later rest (omega arith);
                 }
             | inr other ↦
                 let away = ne_eqb i.level j other in
-                after_another i later j (and_right (is_decided i.kind) (nat_eq i.level j) away)
+                after_another i later j (and_right (is_decision i.kind) (nat_eq i.level j) away)
                 (one_decision (level_after k i) j later rest (omega (arith, other)) low)
           ]
       | inr other_kind ↦
@@ -87,7 +87,7 @@ pub levels_rise : (k : ℕ) (items : List Item) → may_all_stand k items ≡ tr
 levels_rise k [] h = let none : k - k ≡ 0 = omega arith in sym (ap (range_with_len (suc k)) none)
 levels_rise k (i ∷ later) h =
     let more = levels_rise (level_after k i) later parts.1 in
-    elim (cases_Bool (is_decided i.kind)) [
+    elim (cases_Bool (is_decision i.kind)) [
       | inl deciding ↦
           let level = opened k i parts.0 deciding in
           let now : level_after k i ≡ i.level = rw deciding refl in

@@ -10,11 +10,11 @@ use Rattle.search_region.specs.Trail as picture
 use Rattle.chrono_trail.specs.declared.item.Kind.{Kind}
 use Rattle.chrono_trail.specs.declared.item.Kind.TheVariants.{Assumed, Decided, Flipped, Turned, Implied}
 use Rattle.chrono_trail.specs.declared.item.Item.{Item}
-use Rattle.chrono_trail.specs.Items.{item_of, is_decided, is_inside, are_inside, depth_from, upto}
-use Rattle.chrono_trail.specs.Clauses.{false_by}
+use Rattle.chrono_trail.specs.Items.{item_of, is_decision, is_inside, are_inside, depth_from, is_upto}
+use Rattle.chrono_trail.specs.Clauses.{false_upto}
 use Rattle.chrono_trail.specs.Pictures.{kind_of, pictured, picture_of}
 
-decided_same : (clauses : List (List ℤ)) (k : Kind) → picture.is_decided (kind_of clauses k) ≡ is_decided k
+decided_same : (clauses : List (List ℤ)) (k : Kind) → picture.is_decided (kind_of clauses k) ≡ is_decision k
 decided_same clauses Assumed = refl
 decided_same clauses Decided = refl
 decided_same clauses Flipped = refl
@@ -88,23 +88,23 @@ pub depth-picture : (clauses : List (List ℤ)) (items : List Item) → picture.
 depth-picture clauses items = ap picture.depth (sym (append-nil (picture_of clauses items))) ∙ depth_over clauses items []
 
 -- levels taken back are taken back in the picture
-pub back-picture : (clauses : List (List ℤ)) (k : ℕ) (items : List Item) → picture.back k (picture_of clauses items) ≡ picture_of clauses (filter (upto k) items)
+pub back-picture : (clauses : List (List ℤ)) (k : ℕ) (items : List Item) → picture.back k (picture_of clauses items) ≡ picture_of clauses (filter (is_upto k) items)
 back-picture clauses k [] = refl
 back-picture clauses k (i ∷ later) =
     filter-append (λ j. nat_le j.level k) (picture_of clauses later) (pictured clauses i ∷ [])
     ∙ ap (λ xs. xs ++ picture.back k (pictured clauses i ∷ [])) (back-picture clauses k later)
     ∙ elim (cases_Bool (nat_le i.level k)) [
       | inl stays ↦ rw stays refl
-      | inr leaves ↦ rw leaves (append-nil (picture_of clauses (filter (upto k) later)))
+      | inr leaves ↦ rw leaves (append-nil (picture_of clauses (filter (is_upto k) later)))
     ]
 
 -- what is false is so in the picture
-pub false_by-picture : (clauses : List (List ℤ)) (k : ℕ) (items : List Item) (l : ℤ) → picture.false_by k (picture_of clauses items) l ≡ false_by k items l
+pub false_by-picture : (clauses : List (List ℤ)) (k : ℕ) (items : List Item) (l : ℤ) → picture.false_by k (picture_of clauses items) l ≡ false_upto k items l
 false_by-picture clauses k [] l = refl
 false_by-picture clauses k (i ∷ later) l =
     list_any-append (λ j. int_eq l (neg_ℤ j.lit) && nat_le j.level k) (picture_of clauses later) (pictured clauses i ∷ [])
     ∙ ap (λ b. b || ((int_eq l (neg_ℤ i.lit) && nat_le i.level k) || false)) (false_by-picture clauses k later l)
-    ∙ or_swap (false_by k later l) (int_eq l (neg_ℤ i.lit) && nat_le i.level k)
+    ∙ or_swap (false_upto k later l) (int_eq l (neg_ℤ i.lit) && nat_le i.level k)
 
 -- what is assigned is so in the picture
 pub is_assigned-picture : (clauses : List (List ℤ)) (v : ℕ) (items : List Item) → picture.is_assigned v (picture_of clauses items) ≡ is_some (item_of items v)

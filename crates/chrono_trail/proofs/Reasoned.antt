@@ -8,8 +8,8 @@ use Rattle.search_region.proofs.Literals.{all_weaker}
 use Rattle.chrono_trail.specs.declared.item.Kind.{Kind}
 use Rattle.chrono_trail.specs.declared.item.Kind.TheVariants.{Assumed, Decided, Flipped, Turned, Implied}
 use Rattle.chrono_trail.specs.declared.item.Item.{Item}
-use Rattle.chrono_trail.specs.Items.{reason_id, is_inside, are_inside, upto}
-use Rattle.chrono_trail.specs.Clauses.{false_by, IsReason}
+use Rattle.chrono_trail.specs.Items.{reason_id, is_inside, are_inside, is_upto}
+use Rattle.chrono_trail.specs.Clauses.{false_upto, IsReason}
 use Rattle.chrono_trail.specs.Reasons.{HasReason, HaveReasons, AppendingKeepsReasons, BacktrackingKeepsReasons, MoreClausesKeepReasons, ReasonsAreInside, ReasonsArePictured}
 use Rattle.chrono_trail.proofs.Reasons.{pictured_reason}
 
@@ -27,54 +27,54 @@ pub appending_keeps : AppendingKeepsReasons
 appending_keeps clauses items e h here = have_more clauses [] items (e ∷ []) h (here, tt)
 
 -- a literal stays false by what stays
-false_stays : (j k : ℕ) (items : List Item) (m : ℤ) → j ≤ k → false_by j items m ≡ true → false_by j (filter (upto k) items) m ≡ true
+false_stays : (j k : ℕ) (items : List Item) (m : ℤ) → j ≤ k → false_upto j items m ≡ true → false_upto j (filter (is_upto k) items) m ≡ true
 false_stays j k [] m low h = h
 false_stays j k (i ∷ later) m low h =
-    elim (or_cases (int_eq m (neg_ℤ i.lit) && nat_le i.level j) (false_by j later m) h) [
+    elim (or_cases (int_eq m (neg_ℤ i.lit) && nat_le i.level j) (false_upto j later m) h) [
       | inl here ↦
           let parts = and_parts (int_eq m (neg_ℤ i.lit)) (nat_le i.level j) here in
           let level = leb-true i.level j parts.1 in
-          rw (le-leb i.level k (omega arith)) (or_left (int_eq m (neg_ℤ i.lit) && nat_le i.level j) (false_by j (filter (upto k) later) m) here)
+          rw (le-leb i.level k (omega arith)) (or_left (int_eq m (neg_ℤ i.lit) && nat_le i.level j) (false_upto j (filter (is_upto k) later) m) here)
       | inr rest ↦
           let more = false_stays j k later m low rest in
-          elim (cases_Bool (upto k i)) [
-            | inl stays ↦ rw stays (or_right (int_eq m (neg_ℤ i.lit) && nat_le i.level j) (false_by j (filter (upto k) later) m) more)
+          elim (cases_Bool (is_upto k i)) [
+            | inl stays ↦ rw stays (or_right (int_eq m (neg_ℤ i.lit) && nat_le i.level j) (false_upto j (filter (is_upto k) later) m) more)
             | inr leaves ↦ rw leaves more
           ]
     ]
 
-reason_stays : (k : ℕ) (older : List Item) (i : Item) (c : List ℤ) → i.level ≤ k → IsReason older i c → IsReason (filter (upto k) older) i c
+reason_stays : (k : ℕ) (older : List Item) (i : Item) (c : List ℤ) → i.level ≤ k → IsReason older i c → IsReason (filter (is_upto k) older) i c
 reason_stays k older i c low h = record {
   among = h.among;
   rest =
-      all_weaker (λ m. int_eq m i.lit || false_by i.level older m) (λ m. int_eq m i.lit || false_by i.level (filter (upto k) older) m)
-      (λ m e. elim (or_cases (int_eq m i.lit) (false_by i.level older m) e) [
-        | inl same ↦ or_left (int_eq m i.lit) (false_by i.level (filter (upto k) older) m) same
-        | inr wrong ↦ or_right (int_eq m i.lit) (false_by i.level (filter (upto k) older) m) (false_stays i.level k older m low wrong)
+      all_weaker (λ m. int_eq m i.lit || false_upto i.level older m) (λ m. int_eq m i.lit || false_upto i.level (filter (is_upto k) older) m)
+      (λ m e. elim (or_cases (int_eq m i.lit) (false_upto i.level older m) e) [
+        | inl same ↦ or_left (int_eq m i.lit) (false_upto i.level (filter (is_upto k) older) m) same
+        | inr wrong ↦ or_right (int_eq m i.lit) (false_upto i.level (filter (is_upto k) older) m) (false_stays i.level k older m low wrong)
       ])
       c h.rest;
 }
 
-have_back : (clauses : List (List ℤ)) (k : ℕ) (older later : List Item) → HaveReasons clauses older later → HaveReasons clauses (filter (upto k) older) (filter (upto k) later)
+have_back : (clauses : List (List ℤ)) (k : ℕ) (older later : List Item) → HaveReasons clauses older later → HaveReasons clauses (filter (is_upto k) older) (filter (is_upto k) later)
 have_back clauses k older [] h = tt
 have_back clauses k older (i ∷ later) h =
     let more = have_back clauses k (older ++ i ∷ []) later h.1 in
-    let parts = filter-append (upto k) older (i ∷ []) in
-    elim (cases_Bool (upto k i)) [
+    let parts = filter-append (is_upto k) older (i ∷ []) in
+    elim (cases_Bool (is_upto k i)) [
       | inl stays ↦
-          let one : filter (upto k) (i ∷ []) ≡ i ∷ [] = rw stays refl in
-          let grown : filter (upto k) (older ++ i ∷ []) ≡ filter (upto k) older ++ i ∷ [] = parts ∙ ap (λ xs. filter (upto k) older ++ xs) one in
+          let one : filter (is_upto k) (i ∷ []) ≡ i ∷ [] = rw stays refl in
+          let grown : filter (is_upto k) (older ++ i ∷ []) ≡ filter (is_upto k) older ++ i ∷ [] = parts ∙ ap (λ xs. filter (is_upto k) older ++ xs) one in
           rw stays (
             (λ id some. let at = h.0 id some in record {
               inside = at.inside;
               reason = reason_stays k older i (get_or clauses id []) (leb-true i.level k stays) at.reason;
             }),
-            subst (λ o. HaveReasons clauses o (filter (upto k) later)) grown more,
+            subst (λ o. HaveReasons clauses o (filter (is_upto k) later)) grown more,
           )
       | inr leaves ↦
-          let none : filter (upto k) (i ∷ []) ≡ [] = rw leaves refl in
-          let same : filter (upto k) (older ++ i ∷ []) ≡ filter (upto k) older = parts ∙ ap (λ xs. filter (upto k) older ++ xs) none ∙ append-nil (filter (upto k) older) in
-          rw leaves (subst (λ o. HaveReasons clauses o (filter (upto k) later)) same more)
+          let none : filter (is_upto k) (i ∷ []) ≡ [] = rw leaves refl in
+          let same : filter (is_upto k) (older ++ i ∷ []) ≡ filter (is_upto k) older = parts ∙ ap (λ xs. filter (is_upto k) older ++ xs) none ∙ append-nil (filter (is_upto k) older) in
+          rw leaves (subst (λ o. HaveReasons clauses o (filter (is_upto k) later)) same more)
     ]
 
 pub backtracking_keeps : BacktrackingKeepsReasons

@@ -5,14 +5,14 @@ use Rattle.std.proofs.lemmas.Bool.{and_parts, and_from, or_left, or_right, cases
 use Rattle.chrono_trail.specs.declared.item.Kind.{Kind}
 use Rattle.chrono_trail.specs.declared.item.Kind.TheVariants.{Assumed, Decided, Flipped, Turned, Implied}
 use Rattle.chrono_trail.specs.declared.item.Item.{Item}
-use Rattle.chrono_trail.specs.Items.{is_within, is_decided, decides, goes}
+use Rattle.chrono_trail.specs.Items.{is_within, is_decision, decides, goes}
 use Rattle.chrono_trail.specs.Pictures.{picture_of, pictured}
 use Rattle.chrono_trail.specs.Laws.{DecisionsAreFound, DecisionsAreWithin, DecisionsSplitThePicture, BacktrackingFreesTheDecision}
 use Rattle.chrono_trail.proofs.Pictures.{picture-append}
 use Rattle.chrono_trail.proofs.Back.{tells_back}
 use Rattle.chrono_trail.proofs.Levels.{one_decision}
 
-decided_is : (k : Kind) → is_decided k ≡ true → k ≡ Decided
+decided_is : (k : Kind) → is_decision k ≡ true → k ≡ Decided
 decided_is Assumed h = cc
 decided_is Decided h = refl
 decided_is Flipped h = cc
@@ -82,7 +82,7 @@ decisions_are_found n items level k t above below =
 pub decisions_split : DecisionsSplitThePicture
 decisions_split clauses items k d h =
     let found = found_parts (decides k) items d h in
-    let (deciding, same) = and_parts (is_decided d.kind) (nat_eq d.level k) found.passes in
+    let (deciding, same) = and_parts (is_decision d.kind) (nat_eq d.level k) found.passes in
     record {
       before = found.before;
       after = found.after;
@@ -101,7 +101,7 @@ decisions_are_within n items level k d t h =
 pub backtracking_frees : BacktrackingFreesTheDecision
 backtracking_frees n items level k d t above h =
     let found = found_parts (decides k) items d h in
-    let (deciding, same) = and_parts (is_decided d.kind) (nat_eq d.level k) found.passes in
+    let (deciding, same) = and_parts (is_decision d.kind) (nat_eq d.level k) found.passes in
     let at = eqb-true d.level k same in
     let top : k - 1 + 1 ≡ k = omega arith in
     let variable : nat_eq (nat_abs d.lit) (nat_abs d.lit) ≡ true = eq-eqb (nat_abs d.lit) (nat_abs d.lit) refl in

@@ -19,8 +19,8 @@ abbrev pub is_false : List Item → ℤ → Bool
 is_false items l = list_any (λ i. int_eq l (neg_ℤ i.lit)) items
 
 -- The literal is false by an item of level at most k.
-abbrev pub false_by : ℕ → List Item → ℤ → Bool
-false_by k items l = list_any (λ i. int_eq l (neg_ℤ i.lit) && nat_le i.level k) items
+abbrev pub false_upto : ℕ → List Item → ℤ → Bool
+false_upto k items l = list_any (λ i. int_eq l (neg_ℤ i.lit) && nat_le i.level k) items
 
 -- The clause is false: each literal is.
 abbrev pub is_false_clause : List Item → List ℤ → Bool
@@ -62,4 +62,4 @@ IsScan items c Neither = IsAtRest items c
 -- false by an older item of at most the item's level.
 pub record IsReason (older : List Item) (i : Item) (c : List ℤ) : Type 0 where
   pub among : has_literal c i.lit ≡ true
-  pub rest : list_all (λ m. int_eq m i.lit || false_by i.level older m) c ≡ true
+  pub rest : list_all (λ m. int_eq m i.lit || false_upto i.level older m) c ≡ true

@@ -7,16 +7,16 @@ use Rattle.chrono_trail.specs.declared.item.Kind.TheVariants.{Assumed, Decided, 
 use Rattle.chrono_trail.specs.declared.item.Item.{Item}
 
 -- The literal was decided.
-abbrev pub is_decided : Kind → Bool
-is_decided Assumed = false
-is_decided Decided = true
-is_decided Flipped = false
-is_decided (Turned id) = false
-is_decided (Implied id) = false
+abbrev pub is_decision : Kind → Bool
+is_decision Assumed = false
+is_decision Decided = true
+is_decision Flipped = false
+is_decision (Turned id) = false
+is_decision (Implied id) = false
 
 -- The item is a decision of level k.
 abbrev pub decides : ℕ → Item → Bool
-decides k i = is_decided i.kind && nat_eq i.level k
+decides k i = is_decision i.kind && nat_eq i.level k
 
 -- The number of the clause that a kind names, where it names one.
 abbrev pub reason_id : Kind → Option ℕ
@@ -53,12 +53,12 @@ value_in l None = None
 value_in l (Some i) = Some (int_eq i.lit l)
 
 -- The item is of level at most k.
-abbrev pub upto : ℕ → Item → Bool
-upto k i = nat_le i.level k
+abbrev pub is_upto : ℕ → Item → Bool
+is_upto k i = nat_le i.level k
 
 -- The item at the place n, where there is one, is above level k.
 abbrev pub IsAboveAt : ℕ → List Item → ℕ → Type 0
-IsAboveAt k items n = (d : Item) → n < length items → upto k (slice_index_or items n d) ≡ false
+IsAboveAt k items n = (d : Item) → n < length items → is_upto k (slice_index_or items n d) ≡ false
 
 -- The decision of level k stands at the place n: it is the first one, and no item before it is of
 -- level k or above.
@@ -66,13 +66,13 @@ pub record IsDecisionAt (k : ℕ) (items : List Item) (n : ℕ) : Type 0 where
   pub inside : n < length items
   pub opens : (d : Item) → decides k (slice_index_or items n d) ≡ true
   pub found : find (decides k) items ≡ slice_get items n
-  pub low : list_all (upto (k - 1)) (take n items) ≡ true
+  pub low : list_all (is_upto (k - 1)) (take n items) ≡ true
 
 -- The places of the decisions among the items, the oldest first, where n items stand before them.
 abbrev pub decisions_from : ℕ → List Item → List ℕ
 decisions_from n [] = []
 decisions_from n (i ∷ later) =
-    cond (is_decided i.kind) (n ∷ decisions_from (suc n) later) (decisions_from (suc n) later)
+    cond (is_decision i.kind) (n ∷ decisions_from (suc n) later) (decisions_from (suc n) later)
 
 -- The item is of one of the variables 1 to n.
 abbrev pub is_within : ℕ → Item → Bool
@@ -93,7 +93,7 @@ are_distinct (i ∷ later) = is_none (item_of later (nat_abs i.lit)) && are_dist
 
 -- The level that is current with an item, where k was current before it: a decision opens its own.
 abbrev pub level_after : ℕ → Item → ℕ
-level_after k i = cond (is_decided i.kind) i.level k
+level_after k i = cond (is_decision i.kind) i.level k
 
 -- The level that is current with the last of the items, where k was current before them.
 abbrev pub depth_from : ℕ → List Item → ℕ
@@ -103,7 +103,7 @@ depth_from k (i ∷ later) = depth_from (level_after k i) later
 -- The item may stand where level k is current: a decision opens the next level, and no other item
 -- is above k.
 abbrev pub may_stand : ℕ → Item → Bool
-may_stand k i = cond (is_decided i.kind) (nat_eq i.level (suc k)) (nat_le i.level k)
+may_stand k i = cond (is_decision i.kind) (nat_eq i.level (suc k)) (nat_le i.level k)
 
 -- Each of the items may stand where it does, where k is current before them.
 abbrev pub may_all_stand : ℕ → List Item → Bool

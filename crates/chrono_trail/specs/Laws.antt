@@ -5,7 +5,7 @@ use Rattle.sat_terms.specs.Literals.{IsLiteral, IsLiteralOf}
 use Rattle.sat_terms.specs.Cubes.{has_pair}
 use Rattle.search_region.specs.Trail.{back, is_reason}
 use Rattle.chrono_trail.specs.declared.item.Item.{Item}
-use Rattle.chrono_trail.specs.Items.{item_of, is_decided, decides, upto, depth_from, are_distinct, are_inside}
+use Rattle.chrono_trail.specs.Items.{item_of, is_decision, decides, is_upto, depth_from, are_distinct, are_inside}
 use Rattle.chrono_trail.specs.Trails.{IsTrail}
 use Rattle.chrono_trail.specs.Clauses.{IsAtRest, IsReason}
 use Rattle.chrono_trail.specs.Pictures.{pictured, picture_of, Splits}
@@ -27,7 +27,7 @@ EachLevelHasOneDecision = (n : ℕ) (items : List Item) (level k : ℕ) → IsTr
 
 -- The levels of the decisions, the oldest first.
 abbrev pub decision_levels : List Item → List ℕ
-decision_levels items = map (λ i. i.level) (filter (λ i. is_decided i.kind) items)
+decision_levels items = map (λ i. i.level) (filter (λ i. is_decision i.kind) items)
 
 -- The levels of the decisions are 1, 2 and so on to the current one, in this order.
 abbrev pub DecisionsRise : Type 0
@@ -43,12 +43,12 @@ NoneAboveItsPlace = (n : ℕ) (before : List Item) (i : Item) (after : List Item
 -- No item is above the current level.
 abbrev pub NoneAboveTheCurrent : Type 0
 NoneAboveTheCurrent = (n : ℕ) (items : List Item) (level : ℕ) → IsTrail n items level →
-    list_all (upto level) items ≡ true
+    list_all (is_upto level) items ≡ true
 
 -- The items up to a level k make a trail, of which k is the current level.
 abbrev pub LowItemsStay : Type 0
 LowItemsStay = (n : ℕ) (items : List Item) (level k : ℕ) → IsTrail n items level → k ≤ level →
-    IsTrail n (filter (upto k) items) k
+    IsTrail n (filter (is_upto k) items) k
 
 -- The decision of a level from 1 to the current one can be found.
 abbrev pub DecisionsAreFound : Type 0
@@ -69,7 +69,7 @@ DecisionsAreWithin = (n : ℕ) (items : List Item) (level k : ℕ) (d : Item) �
 abbrev pub BacktrackingFreesTheDecision : Type 0
 BacktrackingFreesTheDecision = (n : ℕ) (items : List Item) (level k : ℕ) (d : Item) →
     IsTrail n items level → 0 < k → find (decides k) items ≡ Some d →
-    item_of (filter (upto (k - 1)) items) (nat_abs d.lit) ≡ None
+    item_of (filter (is_upto (k - 1)) items) (nat_abs d.lit) ≡ None
 
 -- Items that follow are newer in the picture.
 abbrev pub AppendedItemsAreNewer : Type 0
@@ -79,7 +79,7 @@ AppendedItemsAreNewer = (clauses : List (List ℤ)) (xs ys : List Item) →
 -- Levels that are taken back are taken back in the picture.
 abbrev pub BacktrackingIsPictured : Type 0
 BacktrackingIsPictured = (clauses : List (List ℤ)) (k : ℕ) (items : List Item) →
-    picture_of clauses (filter (upto k) items) ≡ back k (picture_of clauses items)
+    picture_of clauses (filter (is_upto k) items) ≡ back k (picture_of clauses items)
 
 -- Clauses that join behind those that the items name change nothing in the picture.
 abbrev pub MoreClausesKeepThePicture : Type 0

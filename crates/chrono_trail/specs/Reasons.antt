@@ -2,7 +2,7 @@
 use Rattle.std.specs.Prelude.{◌≡◌, ℕ, ◌<◌, true, List, [], ◌∷◌, ◌++◌, length, filter, slice_index_or, ℤ, Some}
 use Rattle.search_region.specs.Trail.{is_reason}
 use Rattle.chrono_trail.specs.declared.item.Item.{Item}
-use Rattle.chrono_trail.specs.Items.{reason_id, are_inside, upto}
+use Rattle.chrono_trail.specs.Items.{reason_id, are_inside, is_upto}
 use Rattle.chrono_trail.specs.Clauses.{IsReason}
 use Rattle.chrono_trail.specs.Pictures.{pictured, picture_of}
 
@@ -35,7 +35,7 @@ AppendingKeepsReasons = (clauses : List (List ℤ)) (items : List Item) (e : Ite
 -- So does taking levels back.
 abbrev pub BacktrackingKeepsReasons : Type 0
 BacktrackingKeepsReasons = (clauses : List (List ℤ)) (k : ℕ) (items : List Item) →
-    AreReasoned clauses items → AreReasoned clauses (filter (upto k) items)
+    AreReasoned clauses items → AreReasoned clauses (filter (is_upto k) items)
 
 -- So do clauses that join behind the others.
 abbrev pub MoreClausesKeepReasons : Type 0

@@ -2,7 +2,7 @@
 use Rattle.std.specs.Prelude.{◌≡◌, ℕ, ◌+◌, ◌-◌, ◌<◌, ◌≤◌, ◌^◌, true, cond, nat_eq, List, length, filter, take, slice_index_or, Option, None}
 use Rattle.std.specs.List.{list_all}
 use Rattle.chrono_trail.specs.declared.item.Item.{Item}
-use Rattle.chrono_trail.specs.Items.{item_of, upto, is_within, are_distinct, depth_from, may_all_stand, decisions_from}
+use Rattle.chrono_trail.specs.Items.{item_of, is_upto, is_within, are_distinct, depth_from, may_all_stand, decisions_from}
 
 -- A trail for the variables 1 to `variables`: its items, the oldest first, the current level, and
 -- how many of the oldest items its user has marked as seen.
@@ -16,7 +16,7 @@ pub record TrailView : Type 0 where
 -- ones that stay, and none where k is 0.
 abbrev pub seen_back : ℕ → TrailView → ℕ
 seen_back k trail =
-    cond (nat_eq k 0) 0 (length (filter (upto k) (take trail.seen trail.items)))
+    cond (nat_eq k 0) 0 (length (filter (is_upto k) (take trail.seen trail.items)))
 
 -- The items are of distinct variables among 1 to n. Each level from 1 to the current one has just
 -- one decision, in this order; each other item is of a level of at most that of the last decision

@@ -1,6 +1,6 @@
 //! One literal of a trail, and why it is there.
 ghost use Rattle.std.specs.Prelude.{◌≡◌};
-ghost use Rattle.chrono_trail.specs.Items.{is_decided};
+ghost use Rattle.chrono_trail.specs.Items.{is_decision};
 
 /// Why a literal is on the trail. The numbers are those of clauses.
 #[derive(Clone, Copy, Debug, PartialEq, Eq)]
@@ -20,7 +20,7 @@ pub enum Kind {
 impl Kind {
     /// Whether the literal was decided.
     pub fn is_decided(self) -> bool
-        ensures { result ≡ is_decided self }
+        ensures { result ≡ is_decision self }
     {
         match self {
             Kind::Decided => true,

@@ -3,7 +3,7 @@ ghost use Rattle.std.specs.Prelude.{◌≡◌, ℕ, ◌+◌, ◌<◌, ◌≤◌,
 ghost use Rattle.std.specs.Prelude.{None, IfOk, nat_abs, length, slice_set, slice_index_or, filter};
 ghost use Rattle.std.specs.Prelude.{take, nat_eq, vec_capacity};
 ghost use Rattle.std.specs.List.{All, list_all};
-ghost use Rattle.chrono_trail.specs.Items.{item_of, level_in, value_in, is_decided, upto};
+ghost use Rattle.chrono_trail.specs.Items.{item_of, level_in, value_in, is_decision, is_upto};
 ghost use Rattle.chrono_trail.specs.Items.{depth_from, may_all_stand, decisions_from};
 ghost use Rattle.chrono_trail.specs.Items.{IsDecisionAt, IsAboveAt, HasPlace, goes};
 ghost use Rattle.chrono_trail.specs.Trails.{IsTrail, seen_back};
@@ -138,7 +138,7 @@ impl Trail {
         requires within { nat_abs lit ≤ self.old.variables }
         requires unassigned { item_of self.old.items (nat_abs lit) ≡ None }
         requires below { level ≤ self.old.level }
-        requires undecided { is_decided kind ≡ false }
+        requires undecided { is_decision kind ≡ false }
         ensures items { self.new.items
             ≡ self.old.items ++ record { lit = lit; level = level; kind = kind } ∷ [] }
         ensures level { self.new.level ≡ self.old.level }
@@ -181,7 +181,7 @@ impl Trail {
     /// order. It looks at no item before the first one that goes.
     pub fn backtrack(&mut self, level: u32)
         requires { level ≤ self.old.level }
-        ensures items { self.new.items ≡ filter (upto level) self.old.items }
+        ensures items { self.new.items ≡ filter (is_upto level) self.old.items }
         ensures level { self.new.level ≡ level }
         ensures variables { self.new.variables ≡ self.old.variables }
         ensures seen { self.new.seen ≡ seen_back level self.old }
@@ -265,10 +265,10 @@ fn free(given: &mut Vec<Option<Item>>, items: &[Item], least: u32)
 fn keep_upto(items: &mut Vec<Item>, start: usize, level: u32, seen: usize) -> usize
     requires within { start ≤ length items.old.items }
     requires first { IsAboveAt level items.old.items start }
-    requires low { list_all (upto level) (take start items.old.items) ≡ true }
-    ensures items { items.new.items ≡ filter (upto level) items.old.items }
+    requires low { list_all (is_upto level) (take start items.old.items) ≡ true }
+    ensures items { items.new.items ≡ filter (is_upto level) items.old.items }
     ensures capacity { vec_capacity items.new ≡ vec_capacity items.old }
-    ensures seen { result ≡ length (filter (upto level) (take seen items.old.items)) }
+    ensures seen { result ≡ length (filter (is_upto level) (take seen items.old.items)) }
 {
     let mut kept = start;
     let mut kept_seen = start.min(seen);

@@ -7,7 +7,7 @@ use Rattle.search_region.proofs.Literals.{all_weaker, any_weaker}
 use Rattle.sat_terms.specs.Literals.{IsLiteralOf}
 use Rattle.chrono_trail.specs.declared.item.Item.{Item}
 use Rattle.chrono_trail.specs.Items.{item_of, are_distinct, is_within}
-use Rattle.chrono_trail.specs.Clauses.{is_false, false_by, IsReason}
+use Rattle.chrono_trail.specs.Clauses.{is_false, false_upto, IsReason}
 use Rattle.chrono_trail.specs.Reasons.{HasReason, HaveReasons}
 use Rattle.chrono_trail.proofs.Items.{none_is, item_of-push}
 
@@ -58,11 +58,11 @@ within_at n (i ∷ later) (suc at) d h w = within_at n later at d (omega arith) 
 -- a reason's other literals are false
 pub reason_false : (older : List Item) (i : Item) (c : List ℤ) → IsReason older i c → list_all (λ m. int_eq m i.lit || is_false older m) c ≡ true
 reason_false older i c h =
-    all_weaker (λ m. int_eq m i.lit || false_by i.level older m) (λ m. int_eq m i.lit || is_false older m)
+    all_weaker (λ m. int_eq m i.lit || false_upto i.level older m) (λ m. int_eq m i.lit || is_false older m)
     (λ m e. elim (cases_Bool (int_eq m i.lit)) [
       | inl same ↦ or_left (int_eq m i.lit) (is_false older m) same
       | inr other ↦
-          let wrong : false_by i.level older m ≡ true = rw other at e in
+          let wrong : false_upto i.level older m ≡ true = rw other at e in
           or_right (int_eq m i.lit) (is_false older m)
           (any_weaker (λ j. int_eq m (neg_ℤ j.lit) && nat_le j.level i.level) (λ j. int_eq m (neg_ℤ j.lit)) (λ j b. (and_parts (int_eq m (neg_ℤ j.lit)) (nat_le j.level i.level) b).0) older wrong)
     ])

@@ -8,8 +8,8 @@ use Rattle.sat_terms.specs.Cubes.{has_literal}
 use Rattle.search_region.specs.Trail.{is_reason}
 use Rattle.search_region.proofs.Literals.{all_weaker, any_weaker}
 use Rattle.chrono_trail.specs.declared.item.Item.{Item}
-use Rattle.chrono_trail.specs.Items.{reason_id, decides, is_decided, level_after, may_stand, may_all_stand, upto}
-use Rattle.chrono_trail.specs.Clauses.{is_false, is_or_false, false_by, rest_level}
+use Rattle.chrono_trail.specs.Items.{reason_id, decides, is_decision, level_after, may_stand, may_all_stand, is_upto}
+use Rattle.chrono_trail.specs.Clauses.{is_false, is_or_false, false_upto, rest_level}
 use Rattle.chrono_trail.specs.Pictures.{pictured}
 use Rattle.chrono_trail.specs.Trails.{IsTrail}
 use Rattle.chrono_trail.proofs.Back.{all_low}
@@ -27,7 +27,7 @@ none_of_zero k (i ∷ later) h =
     let (now, rest) = and_parts (may_stand k i) (may_all_stand (level_after k i) later) h in
     elim (cases_Bool (decides 0 i)) [
       | inl here ↦
-          let (deciding, same) = and_parts (is_decided i.kind) (nat_eq i.level 0) here in
+          let (deciding, same) = and_parts (is_decision i.kind) (nat_eq i.level 0) here in
           let level = opened k i now deciding in
           let lowest = eqb-true i.level 0 same in
           absurd (omega arith)
@@ -73,17 +73,17 @@ all_false items x (m ∷ c) h =
     (all_false items x c (All-tail (λ l. negates_branch items l ≡ true) m c h))
 
 -- a literal stays false by what stays
-false_stays : (j k : ℕ) (items : List Item) (m : ℤ) → j ≤ k → false_by j items m ≡ true → false_by j (filter (upto k) items) m ≡ true
+false_stays : (j k : ℕ) (items : List Item) (m : ℤ) → j ≤ k → false_upto j items m ≡ true → false_upto j (filter (is_upto k) items) m ≡ true
 false_stays j k [] m low h = h
 false_stays j k (i ∷ later) m low h =
-    elim (or_cases (int_eq m (neg_ℤ i.lit) && nat_le i.level j) (false_by j later m) h) [
+    elim (or_cases (int_eq m (neg_ℤ i.lit) && nat_le i.level j) (false_upto j later m) h) [
       | inl here ↦
           let level = leb-true i.level j (and_parts (int_eq m (neg_ℤ i.lit)) (nat_le i.level j) here).1 in
-          rw (le-leb i.level k (omega arith)) (or_left (int_eq m (neg_ℤ i.lit) && nat_le i.level j) (false_by j (filter (upto k) later) m) here)
+          rw (le-leb i.level k (omega arith)) (or_left (int_eq m (neg_ℤ i.lit) && nat_le i.level j) (false_upto j (filter (is_upto k) later) m) here)
       | inr rest ↦
           let more = false_stays j k later m low rest in
-          elim (cases_Bool (upto k i)) [
-            | inl stays ↦ rw stays (or_right (int_eq m (neg_ℤ i.lit) && nat_le i.level j) (false_by j (filter (upto k) later) m) more)
+          elim (cases_Bool (is_upto k i)) [
+            | inl stays ↦ rw stays (or_right (int_eq m (neg_ℤ i.lit) && nat_le i.level j) (false_upto j (filter (is_upto k) later) m) more)
             | inr leaves ↦ rw leaves more
           ]
     ]
@@ -100,16 +100,16 @@ asserting_is_reason clauses n items level id lits k r x i t h lower lit lev =
     let low = rest_low items x r lits t.distinct (all_false items x lits h.resolvent.negated) (let rest = h.rest in omega arith) in
     record {
       among = subst (λ l. has_literal lits l ≡ true) (sym lit) among;
-      rest = subst (λ l. list_all (λ m. int_eq m l || false_by i.level (filter (upto (k - 1)) items) m) lits ≡ true) (sym lit)
-          (subst (λ j. list_all (λ m. int_eq m x || false_by j (filter (upto (k - 1)) items) m) lits ≡ true) (sym lev)
-          (all_weaker (λ m. int_eq m x || false_by r items m) (λ m. int_eq m x || false_by r (filter (upto (k - 1)) items) m)
-          (λ m e. elim (or_cases (int_eq m x) (false_by r items m) e) [
-            | inl same ↦ or_left (int_eq m x) (false_by r (filter (upto (k - 1)) items) m) same
-            | inr wrong ↦ or_right (int_eq m x) (false_by r (filter (upto (k - 1)) items) m) (false_stays r (k - 1) items m (omega arith) wrong)
+      rest = subst (λ l. list_all (λ m. int_eq m l || false_upto i.level (filter (is_upto (k - 1)) items) m) lits ≡ true) (sym lit)
+          (subst (λ j. list_all (λ m. int_eq m x || false_upto j (filter (is_upto (k - 1)) items) m) lits ≡ true) (sym lev)
+          (all_weaker (λ m. int_eq m x || false_upto r items m) (λ m. int_eq m x || false_upto r (filter (is_upto (k - 1)) items) m)
+          (λ m e. elim (or_cases (int_eq m x) (false_upto r items m) e) [
+            | inl same ↦ or_left (int_eq m x) (false_upto r (filter (is_upto (k - 1)) items) m) same
+            | inr wrong ↦ or_right (int_eq m x) (false_upto r (filter (is_upto (k - 1)) items) m) (false_stays r (k - 1) items m (omega arith) wrong)
           ]) lits low));
     }
 
 pub asserting_is_pictured : AssertingLemmaIsPictured
 asserting_is_pictured clauses n items level id lits k r x i t h lower lit lev =
     subst (λ trail. is_reason lits (pictured clauses i) trail ≡ true) (sym (back-picture clauses (k - 1) items))
-    (pictured_reason clauses (filter (upto (k - 1)) items) i lits (asserting_is_reason clauses n items level id lits k r x i t h lower lit lev))
+    (pictured_reason clauses (filter (is_upto (k - 1)) items) i lits (asserting_is_reason clauses n items level id lits k r x i t h lower lit lev))

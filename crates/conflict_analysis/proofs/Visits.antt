@@ -15,7 +15,7 @@ use Rattle.chrono_trail.specs.declared.item.Item.{Item}
 use Rattle.chrono_trail.specs.Items.{item_of, reason_id}
 use Rattle.conflict_analysis.specs.Lemmas.{negates_branch}
 use Rattle.conflict_analysis.specs.Marks.{is_marked, mark_count, names_beside}
-use Rattle.conflict_analysis.specs.Walks.{IsWalkable, IsWalk, is_amiss, is_before, has_variable}
+use Rattle.conflict_analysis.specs.Walks.{IsWalkable, IsWalk, is_amiss, stands_before, has_variable}
 use Rattle.conflict_analysis.proofs.Counts.{count_unmark, marked_fewer, AreMarked}
 use Rattle.conflict_analysis.proofs.Places.{none_before, reason_at, within_at, reason_false, some_more, some_fewer, some_here}
 use Rattle.conflict_analysis.proofs.Amiss.{not_true, clause_amiss, amiss_kept, named_some, named_held}
@@ -46,13 +46,13 @@ module _ (clauses : List (List ℤ)) (n : ℕ) (items : List Item) (level id at 
   pub named_here : IsLiteralOf n (get_or items at d).lit
   named_here = within_at n items at d inside w.trail.within
 
-  before_more : (u : ℕ) → is_before items at u ≡ true → is_before items (at + 1) u ≡ true
+  before_more : (u : ℕ) → stands_before items at u ≡ true → stands_before items (at + 1) u ≡ true
   before_more u b = subst (λ xs. is_some (item_of xs u) ≡ true) (sym grown) (some_more (take at items) (get_or items at d) u free b)
 
-  before_fewer : (u : ℕ) → nat_eq u (nat_abs (get_or items at d).lit) ≡ false → is_before items (at + 1) u ≡ true → is_before items at u ≡ true
+  before_fewer : (u : ℕ) → nat_eq u (nat_abs (get_or items at d).lit) ≡ false → stands_before items (at + 1) u ≡ true → stands_before items at u ≡ true
   before_fewer u other b = some_fewer (take at items) (get_or items at d) u free other (subst (λ xs. is_some (item_of xs u) ≡ true) grown b)
 
-  before_here : is_before items (at + 1) (nat_abs (get_or items at d).lit) ≡ true
+  before_here : stands_before items (at + 1) (nat_abs (get_or items at d).lit) ≡ true
   before_here = subst (λ xs. is_some (item_of xs (nat_abs (get_or items at d).lit)) ≡ true) (sym grown) (some_here (take at items) (get_or items at d) free)
 
   -- a literal written down is true still, or a marked item false, where one is if this item is
@@ -188,10 +188,10 @@ module _ (clauses : List (List ℤ)) (n : ℕ) (items : List Item) (level id at 
           (ap s (nat_abs-neg (get_or items at d).lit) ∙ h.traced s trace (nat_abs (get_or items at d).lit) on);
     }
       where
-        elsewhere : (u : ℕ) → is_before items at u ≡ true → nat_eq u (nat_abs (neg_ℤ (get_or items at d).lit)) ≡ false
+        elsewhere : (u : ℕ) → stands_before items at u ≡ true → nat_eq u (nat_abs (neg_ℤ (get_or items at d).lit)) ≡ false
         elsewhere u b = elim (cases_Bool (nat_eq u (nat_abs (neg_ℤ (get_or items at d).lit)))) [
           | inl same ↦
               let equal : u ≡ nat_abs (get_or items at d).lit = eqb-true u (nat_abs (neg_ℤ (get_or items at d).lit)) same ∙ nat_abs-neg (get_or items at d).lit in
-              absurd (both_ways (is_before items at u) (ap is_some (ap (item_of (take at items)) equal ∙ free)) b)
+              absurd (both_ways (stands_before items at u) (ap is_some (ap (item_of (take at items)) equal ∙ free)) b)
           | inr other ↦ other
         ]

@@ -28,8 +28,8 @@ abbrev pub has_variable : List ℤ → ℕ → Bool
 has_variable c v = list_any (λ l. nat_eq v (nat_abs l)) c
 
 -- The variable is that of one of the first items.
-abbrev pub is_before : List Item → ℕ → ℕ → Bool
-is_before items at v = is_some (item_of (take at items) v)
+abbrev pub stands_before : List Item → ℕ → ℕ → Bool
+stands_before items at v = is_some (item_of (take at items) v)
 
 -- The items from the place `at` on were visited: `left` variables are marked, each of an item
 -- before that; where all clauses are true, a literal written down is true or a marked item false.
@@ -38,8 +38,8 @@ pub record IsWalk (clauses : List (List ℤ)) (n : ℕ) (items : List Item) (id 
   pub inside : at ≤ length items
   pub counted : left ≡ mark_count marks
   pub room : length lits + at ≤ length items
-  pub placed : (v : ℕ) → is_marked marks v ≡ true → is_before items at v ≡ true
-  pub apart : (v : ℕ) → is_before items at v ≡ true → has_variable lits v ≡ false
+  pub placed : (v : ℕ) → is_marked marks v ≡ true → stands_before items at v ≡ true
+  pub apart : (v : ℕ) → stands_before items at v ≡ true → has_variable lits v ≡ false
   pub explains : (t : ℕ → Bool) → sat clauses t ≡ true →
       (sat_clause t lits || is_amiss t (is_marked marks) (take at items)) ≡ true
   pub named : All (IsLiteralOf n) lits

@@ -3,7 +3,7 @@ use Rattle.std.proofs.Common.{◌≡◌, ℕ, Bool, true, false, List, [], ◌++
 use Rattle.std.proofs.lemmas.List.{append-nil}
 use Rattle.fault_io.specs.Sinks.{SinkView, TakesBytes, TakesFront, TakesWhole}
 use Rattle.fault_io.proofs.Taking.{takes_nothing, takes_more, takes_front, front_longer}
-use Rattle.cube_text.specs.Buffered.{BufferedView, WentOut, IsOut, Wrote}
+use Rattle.cube_text.specs.Buffered.{BufferedView, WentOut, IsWrittenOut, Wrote}
 
 -- the step of a writer from b, over what the sink showed, to c
 abbrev pub Hands : SinkView → BufferedView → SinkView → BufferedView → List ℕ → Type 0
@@ -16,7 +16,7 @@ Wrote-nil start = record { gone = []; all = append-nil []; taken = takes_nothing
 
 -- the piece is kept back behind what was
 IsOut-keep : (start now : SinkView) (text kept piece : List ℕ) (failed : Bool) →
-    IsOut start now text kept failed → IsOut start now (text ++ piece) (kept ++ piece) failed
+    IsWrittenOut start now text kept failed → IsWrittenOut start now (text ++ piece) (kept ++ piece) failed
 IsOut-keep start now text kept piece false out = record {
   gone = out.gone;
   all = sym (append_assoc out.gone kept piece) ∙ ap (λ (l : List ℕ). l ++ piece) out.all;
@@ -45,19 +45,19 @@ pub Wrote-put : {T E : Type 0} (start old now : SinkView) (text piece all : List
     TakesWhole old now all result → c.kept ≡ [] → c.failed ≡ is_err result →
     Wrote start old text b → Wrote start now (text ++ piece) c
 Wrote-put start old now text piece all b c (Ok r) going all_is put kept_is failed_is wrote =
-    let out = subst (λ (f : Bool). IsOut start old text b.kept f) going wrote in
+    let out = subst (λ (f : Bool). IsWrittenOut start old text b.kept f) going wrote in
     let whole = all_of out.gone b.kept piece all text all_is out.all in
     let now_out : WentOut start now (text ++ piece) [] = record {
       gone = out.gone ++ all;
       all = append-nil (out.gone ++ all) ∙ whole;
       taken = takes_more start old now out.gone all out.taken put;
     } in
-    subst (λ (f : Bool). IsOut start now (text ++ piece) c.kept f) (sym failed_is)
+    subst (λ (f : Bool). IsWrittenOut start now (text ++ piece) c.kept f) (sym failed_is)
     (subst (λ (k : List ℕ). WentOut start now (text ++ piece) k) (sym kept_is) now_out)
 Wrote-put start old now text piece all b c (Err e) going all_is put kept_is failed_is wrote =
-    let out = subst (λ (f : Bool). IsOut start old text b.kept f) going wrote in
+    let out = subst (λ (f : Bool). IsWrittenOut start old text b.kept f) going wrote in
     let whole = all_of out.gone b.kept piece all text all_is out.all in
-    subst (λ (f : Bool). IsOut start now (text ++ piece) c.kept f) (sym failed_is)
+    subst (λ (f : Bool). IsWrittenOut start now (text ++ piece) c.kept f) (sym failed_is)
     (subst (λ (l : List ℕ). TakesFront start now l) whole
     (takes_front start old now out.gone all out.taken put))
 
@@ -79,7 +79,7 @@ Hands-same old a b new c piece same hands =
 pub Wrote-whole : (start now : SinkView) (text : List ℕ) (b : BufferedView) →
     b.kept ≡ [] → b.failed ≡ false → Wrote start now (text ++ []) b → TakesBytes start now text
 Wrote-whole start now text b empty going wrote =
-    let out = subst (λ (f : Bool). IsOut start now (text ++ []) b.kept f) going wrote in
+    let out = subst (λ (f : Bool). IsWrittenOut start now (text ++ []) b.kept f) going wrote in
     let all : out.gone ≡ text =
     sym (append-nil out.gone) ∙ ap (λ (l : List ℕ). out.gone ++ l) (sym empty) ∙ out.all ∙ append-nil text in
     subst (λ (l : List ℕ). TakesBytes start now l) all out.taken
@@ -88,7 +88,7 @@ Wrote-whole start now text b empty going wrote =
 pub Wrote-front : (start now : SinkView) (text : List ℕ) (b : BufferedView) → b.failed ≡ true →
     Wrote start now text b → TakesFront start now text
 Wrote-front start now text b fell wrote =
-    subst (λ (f : Bool). IsOut start now text b.kept f) fell wrote
+    subst (λ (f : Bool). IsWrittenOut start now text b.kept f) fell wrote
 
 -- the same bytes, written otherwise
 pub Hands-along : (old : SinkView) (b : BufferedView) (new : SinkView) (c : BufferedView)

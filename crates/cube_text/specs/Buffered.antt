@@ -15,13 +15,13 @@ pub record WentOut (start now : SinkView) (text kept : List ℕ) : Type 0 where
   pub taken : TakesBytes start now gone
 
 -- so it did; or a front of the text went out, and then the sink failed
-abbrev pub IsOut : SinkView → SinkView → List ℕ → List ℕ → Bool → Type 0
-IsOut start now text kept false = WentOut start now text kept
-IsOut start now text kept true = TakesFront start now text
+abbrev pub IsWrittenOut : SinkView → SinkView → List ℕ → List ℕ → Bool → Type 0
+IsWrittenOut start now text kept false = WentOut start now text kept
+IsWrittenOut start now text kept true = TakesFront start now text
 
 -- the writer was handed the text since the start
 abbrev pub Wrote : SinkView → SinkView → List ℕ → BufferedView → Type 0
-Wrote start now text b = IsOut start now text b.kept b.failed
+Wrote start now text b = IsWrittenOut start now text b.kept b.failed
 
 module _ {K : Type 0} (shows : K → SinkView) where
   -- whatever the writer was handed since any start, it was handed the piece behind that

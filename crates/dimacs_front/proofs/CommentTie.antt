@@ -5,7 +5,7 @@ use Rattle.std.specs.Str.{bytes_eq}
 use Rattle.std.proofs.lemmas.Bool.{cond-true}
 use Rattle.std.proofs.lemmas.List.Sums.{fold-append}
 use Rattle.dimacs_tokens.specs.Numbers.{token_value}
-use Rattle.dimacs_tokens.specs.Seen.{seen, begins_with, is_nil}
+use Rattle.dimacs_tokens.specs.Seen.{seen_token, begins_with, is_nil}
 use Rattle.dimacs_tokens.proofs.NumberLaws.{words_by_head}
 use Rattle.dimacs_front.specs.declared.under.Given.{Given}
 use Rattle.dimacs_front.specs.declared.refused.TextRefused.{TextRefused}
@@ -102,28 +102,28 @@ module _ (n : ℕ) (o : Option Below) (ms : List ListLine) (gs : List Given) whe
   abbrev at : LinePlace → StateView
   at p = standing p o ms gs
 
-  first : (t : List ℕ) → begins_with (seen t) 99 ≡ true →
-      eaten n (at Beginning) (seen t) ≡ at (in_comment n (behind_one (bytes_eq (seen t).head (codes "c"))))
+  first : (t : List ℕ) → begins_with (seen_token t) 99 ≡ true →
+      eaten n (at Beginning) (seen_token t) ≡ at (in_comment n (behind_one (bytes_eq (seen_token t).head (codes "c"))))
   unfolding eaten
   first t h = cond-true _ _ _ h
 
   second : (c : Bool) (t : List ℕ) →
-      eaten n (at (in_comment n (behind_one c))) (seen t) ≡
-      at (in_comment n (behind_two c (bytes_eq (seen t).head (codes "p")) (eqb n 1 && bytes_eq (seen t).head (codes "allsat"))))
+      eaten n (at (in_comment n (behind_one c))) (seen_token t) ≡
+      at (in_comment n (behind_two c (bytes_eq (seen_token t).head (codes "p")) (eqb n 1 && bytes_eq (seen_token t).head (codes "allsat"))))
   unfolding eaten
   second true t = refl
   second false t = refl
 
   third : (c p a : Bool) (t : List ℕ) →
-      eaten n (at (in_comment n (behind_two c p a))) (seen t) ≡
-      at (in_comment n (behind_three c p a (bytes_eq (seen t).head (codes "show")) (bytes_eq (seen t).head (codes "under")) (bytes_eq (seen t).head (codes "saved") || bytes_eq (seen t).head (codes "met"))))
+      eaten n (at (in_comment n (behind_two c p a))) (seen_token t) ≡
+      at (in_comment n (behind_three c p a (bytes_eq (seen_token t).head (codes "show")) (bytes_eq (seen_token t).head (codes "under")) (bytes_eq (seen_token t).head (codes "saved") || bytes_eq (seen_token t).head (codes "met"))))
   unfolding eaten
   third true true a t = refl
   third true false true t = refl
   third true false false t = refl
   third false p a t = refl
 
-  passed_token : (t : List ℕ) → eaten n (at (Comment comment.Passed)) (seen t) ≡ at (Comment comment.Passed)
+  passed_token : (t : List ℕ) → eaten n (at (Comment comment.Passed)) (seen_token t) ≡ at (Comment comment.Passed)
   unfolding eaten
   passed_token t = refl
 
@@ -213,23 +213,23 @@ module _ (n : ℕ) (o : Option Below) (ms : List ListLine) (gs : List Given) whe
   few_met false true ts u e f h = absurd (cc)
   few_met false false ts u e f h = h
 
-  pub comment_met : (t : List ℕ) (ts : List (List ℕ)) → begins_with (seen t) 99 ≡ true →
+  pub comment_met : (t : List ℕ) (ts : List (List ℕ)) → begins_with (seen_token t) 99 ≡ true →
       Met state_of (comment_says n said (t ∷ ts)) (line_said n (at Beginning) (t ∷ ts))
   comment_met t [] h =
       let c : Bool = bytes_eq t (codes "c") in
       few_met (c && false) (eqb n 1 && ((c && false) || (c && false))) [] _ (one_is_no_show c) (one_is_not_own (eqb n 1) c)
-      (ap (closed n) (first t h) ∙ one_ends (bytes_eq (seen t).head (codes "c")))
+      (ap (closed n) (first t h) ∙ one_ends (bytes_eq (seen_token t).head (codes "c")))
   comment_met t (u ∷ []) h =
       let c : Bool = bytes_eq t (codes "c") in
       let p : Bool = bytes_eq u (codes "p") in
       let a : Bool = bytes_eq u (codes "allsat") in
-      let k : Bool = bytes_eq (seen t).head (codes "c") in
+      let k : Bool = bytes_eq (seen_token t).head (codes "c") in
       few_met (c && (p && false)) (eqb n 1 && ((c && (a && false)) || (c && (a && false)))) [] _ (few_are_no_show c p) (few_are_not_own (eqb n 1) c a)
-      (ap (λ x. closed n (eaten n x (seen u))) (first t h)
+      (ap (λ x. closed n (eaten n x (seen_token u))) (first t h)
       ∙ ap (closed n) (second k u)
-      ∙ two_end k (bytes_eq (seen u).head (codes "p")) (eqb n 1 && bytes_eq (seen u).head (codes "allsat")))
+      ∙ two_end k (bytes_eq (seen_token u).head (codes "p")) (eqb n 1 && bytes_eq (seen_token u).head (codes "allsat")))
   comment_met t (u ∷ v ∷ ts) h =
-      let k : Bool = bytes_eq (seen t).head (codes "c") in
+      let k : Bool = bytes_eq (seen_token t).head (codes "c") in
       let c : Bool = bytes_eq t (codes "c") in
       let p : Bool = bytes_eq u (codes "p") in
       let a : Bool = bytes_eq u (codes "allsat") in
@@ -238,9 +238,9 @@ module _ (n : ℕ) (o : Option Below) (ms : List ListLine) (gs : List Given) whe
       let s : Bool = bytes_eq v (codes "saved") in
       let m : Bool = bytes_eq v (codes "met") in
       met_same state_of (by_words (shows c p w) (shows c p g) (is_own (eqb n 1) c a s m) ts) _ _
-      (ap (λ x. closed n (tokens_said n (eaten n (eaten n x (seen u)) (seen v)) ts)) (first t h)
-      ∙ ap (λ x. closed n (tokens_said n (eaten n x (seen v)) ts)) (second k u)
-      ∙ ap (λ x. closed n (tokens_said n x ts)) (third k (bytes_eq (seen u).head (codes "p")) (eqb n 1 && bytes_eq (seen u).head (codes "allsat")) v)
+      (ap (λ x. closed n (tokens_said n (eaten n (eaten n x (seen_token u)) (seen_token v)) ts)) (first t h)
+      ∙ ap (λ x. closed n (tokens_said n (eaten n x (seen_token v)) ts)) (second k u)
+      ∙ ap (λ x. closed n (tokens_said n x ts)) (third k (bytes_eq (seen_token u).head (codes "p")) (eqb n 1 && bytes_eq (seen_token u).head (codes "allsat")) v)
       ∙ (λ i. closed n (tokens_said n (at (in_comment n (behind_three (words_by_head t (codes "c") (lit< tt) i) (words_by_head u (codes "p") (lit< tt) i) (eqb n 1 && words_by_head u (codes "allsat") (lit< tt) i) (words_by_head v (codes "show") (lit< tt) i) (words_by_head v (codes "under") (lit< tt) i) (words_by_head v (codes "saved") (lit< tt) i || words_by_head v (codes "met") (lit< tt) i)))) ts))
       ∙ ap (λ x. closed n (tokens_said n (at (in_comment n x)) ts)) (three_places (eqb n 1) c p w g a s m (one_word u)))
       (third_met (shows c p w) (shows c p g) (is_own (eqb n 1) c a s m) ts)

@@ -4,7 +4,7 @@ use Rattle.std.specs.Prelude.{codes}
 use Rattle.std.specs.Str.{bytes_eq}
 use Rattle.std.proofs.lemmas.Bool.{cond-false}
 use Rattle.dimacs_tokens.specs.Numbers.{token_value}
-use Rattle.dimacs_tokens.specs.Seen.{seen, begins_with, list_begins}
+use Rattle.dimacs_tokens.specs.Seen.{seen_token, begins_with, list_begins}
 use Rattle.dimacs_front.specs.declared.under.Given.{Given}
 use Rattle.dimacs_front.specs.declared.refused.TextRefused.TheVariants.{BadStart, BadHeader, HeaderTwice}
 use Rattle.dimacs_front.specs.declared.line_place.LinePlace.TheVariants.{Beginning, Header, Over, Refused}
@@ -23,8 +23,8 @@ use Rattle.dimacs_front.proofs.PassedLines.{over_line}
 use Rattle.dimacs_front.proofs.NumberTie.{number_line_met}
 use Rattle.dimacs_front.proofs.CommentTie.{comment_met}
 
-seen_begins : (t : List ℕ) (b : ℕ) → begins_with (seen t) b ≡ list_begins t b
-unfolding seen
+seen_begins : (t : List ℕ) (b : ℕ) → begins_with (seen_token t) b ≡ list_begins t b
+unfolding seen_token
 seen_begins [] b = refl
 seen_begins (c ∷ cs) b = refl
 
@@ -34,26 +34,26 @@ module _ (n : ℕ) (ms : List ListLine) (gs : List Given) where
   abbrev above : Said
   above = record { below = None; shows = ms; given = gs; over = false }
 
-  begun_above : (t : List ℕ) → begins_with (seen t) 99 ≡ false →
-      eaten n (standing Beginning None ms gs) (seen t) ≡
-      at_place (standing Beginning None ms gs) (cond (begins_with (seen t) 112) (Header (header_begun (seen t))) (Refused (BadStart n)))
+  begun_above : (t : List ℕ) → begins_with (seen_token t) 99 ≡ false →
+      eaten n (standing Beginning None ms gs) (seen_token t) ≡
+      at_place (standing Beginning None ms gs) (cond (begins_with (seen_token t) 112) (Header (header_begun (seen_token t))) (Refused (BadStart n)))
   unfolding eaten
   begun_above t h = cond-false _ _ _ h
 
   above_line-at : (q : Bool) (t : List ℕ) (ts : List (List ℕ)) →
       Met state_of (needs q (BadStart n) (and_then (λ w. Ok (with_below above w)) (header_says n (t ∷ ts))))
-      (closed n (tokens_said n (at_place (standing Beginning None ms gs) (cond q (Header (header_begun (seen t))) (Refused (BadStart n)))) ts))
+      (closed n (tokens_said n (at_place (standing Beginning None ms gs) (cond q (Header (header_begun (seen_token t))) (Refused (BadStart n)))) ts))
   above_line-at true t ts =
       met_map state_of (with_below above) (header_says n (t ∷ ts)) _ (header_met n ms gs t ts)
   above_line-at false t ts =
       refused_line n (refuse (standing Beginning None ms gs) (BadStart n)) (BadStart n) ts refl
 
-  above_line : (t : List ℕ) (ts : List (List ℕ)) → begins_with (seen t) 99 ≡ false →
+  above_line : (t : List ℕ) (ts : List (List ℕ)) → begins_with (seen_token t) 99 ≡ false →
       Met state_of (plain_says n above None t ts) (line_said n (standing Beginning None ms gs) (t ∷ ts))
   above_line t ts h =
       met_same state_of (plain_says n above None t ts) _ _
       (ap (λ x. closed n (tokens_said n x ts)) (begun_above t h)
-      ∙ (λ i. closed n (tokens_said n (at_place (standing Beginning None ms gs) (cond (seen_begins t 112 i) (Header (header_begun (seen t))) (Refused (BadStart n)))) ts)))
+      ∙ (λ i. closed n (tokens_said n (at_place (standing Beginning None ms gs) (cond (seen_begins t 112 i) (Header (header_begun (seen_token t))) (Refused (BadStart n)))) ts)))
       (above_line-at (list_begins t 112) t ts)
 
   -- ---- below it
@@ -80,15 +80,15 @@ module _ (n : ℕ) (ms : List ListLine) (gs : List Given) where
         met_map state_of (with_below below) (numbers_say n w (o ∷ map token_value ts)) _
         (number_line_met n ms gs w o ts)
 
-    begun_below : (t : List ℕ) → begins_with (seen t) 99 ≡ false →
-        eaten n here (seen t) ≡
+    begun_below : (t : List ℕ) → begins_with (seen_token t) 99 ≡ false →
+        eaten n here (seen_token t) ≡
         cond (list_begins t 112) (refuse here (HeaderTwice n)) (cond (list_begins t 37) (at_place here Over) (number_eaten n here (token_value t)))
-    unfolding eaten seen
+    unfolding eaten seen_token
     begun_below t h =
         cond-false _ _ _ h
         ∙ (λ i. cond (seen_begins t 112 i) (refuse here (HeaderTwice n)) (cond (seen_begins t 37 i) (at_place here Over) (number_eaten n here (token_value t))))
 
-    below_line : (t : List ℕ) (ts : List (List ℕ)) → begins_with (seen t) 99 ≡ false →
+    below_line : (t : List ℕ) (ts : List (List ℕ)) → begins_with (seen_token t) 99 ≡ false →
         Met state_of (plain_says n below (Some w) t ts) (line_said n here (t ∷ ts))
     below_line t ts h =
         met_same state_of (plain_says n below (Some w) t ts) _ _
@@ -96,7 +96,7 @@ module _ (n : ℕ) (ms : List ListLine) (gs : List Given) where
         (below_met (list_begins t 112) (list_begins t 37) (token_value t) ts)
 
   plain_met : (o : Option Below) (t : List ℕ) (ts : List (List ℕ)) →
-      begins_with (seen t) 99 ≡ false →
+      begins_with (seen_token t) 99 ≡ false →
       Met state_of (plain_says n (record { below = o; shows = ms; given = gs; over = false }) o t ts)
       (line_said n (standing Beginning o ms gs) (t ∷ ts))
   plain_met None t ts h = above_line t ts h
@@ -105,7 +105,7 @@ module _ (n : ℕ) (ms : List ListLine) (gs : List Given) where
   -- ---- any line
 
   begun-at : (b : Bool) (o : Option Below) (t : List ℕ) (ts : List (List ℕ)) →
-      begins_with (seen t) 99 ≡ b →
+      begins_with (seen_token t) 99 ≡ b →
       Met state_of (cond b (comment_says n (record { below = o; shows = ms; given = gs; over = false }) (t ∷ ts)) (plain_says n (record { below = o; shows = ms; given = gs; over = false }) o t ts))
       (line_said n (standing Beginning o ms gs) (t ∷ ts))
   begun-at true o t ts h = comment_met n o ms gs t ts h
@@ -127,7 +127,7 @@ module _ (n : ℕ) (ms : List ListLine) (gs : List Given) where
   line_met-at o false (t ∷ ts) =
       subst (λ b. Met state_of (cond b (comment_says n (record { below = o; shows = ms; given = gs; over = false }) (t ∷ ts)) (plain_says n (record { below = o; shows = ms; given = gs; over = false }) o t ts)) (line_said n (standing Beginning o ms gs) (t ∷ ts)))
       (seen_begins t 99)
-      (begun-at (begins_with (seen t) 99) o t ts refl)
+      (begun-at (begins_with (seen_token t) 99) o t ts refl)
 
 pub line_met : (n : ℕ) (s : Said) (ts : List (List ℕ)) →
     Met state_of (line_says n s ts) (line_said n (state_of s) ts)

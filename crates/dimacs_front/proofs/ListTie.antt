@@ -3,7 +3,7 @@ use Rattle.std.proofs.Common.{◌≡◌, ℕ, suc, Bool, true, false, cond, eqb,
 use Rattle.std.proofs.lemmas.Bool.{cond-false}
 use Rattle.std.proofs.lemmas.Bool.Decides.{nat_tests}
 use Rattle.dimacs_tokens.specs.Numbers.{token_value}
-use Rattle.dimacs_tokens.specs.Seen.{seen, is_nil}
+use Rattle.dimacs_tokens.specs.Seen.{seen_token, is_nil}
 use Rattle.dimacs_front.specs.declared.under.Given.{Given}
 use Rattle.dimacs_front.specs.declared.refused.TextRefused.{TextRefused}
 use Rattle.dimacs_front.specs.declared.refused.TextRefused.TheVariants.{ShowBad, ShowUnended}
@@ -89,6 +89,6 @@ module _ (n : ℕ) (started : Bool) (w : WrittenView) (given : Bool) (gs : List 
   unended named = refl
 
   pub show_met : (named : List Named) (ts : List (List ℕ)) → Shows named ts
-  unfolding eaten seen
+  unfolding eaten seen_token
   show_met named [] = unended named
   show_met named (t ∷ ts) = value_met named (token_value t) ts (λ ks. show_met ks ts)

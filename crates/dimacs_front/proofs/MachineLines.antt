@@ -2,7 +2,7 @@
 use Rattle.std.specs.Prelude.{ℕ, Bool, cond, ◌&&◌, List, [], ◌∷◌, map, fold, codes, Option, Some, None}
 use Rattle.std.specs.Str.{bytes_eq}
 use Rattle.dimacs_tokens.specs.Numbers.{token_value}
-use Rattle.dimacs_tokens.specs.Seen.{seen}
+use Rattle.dimacs_tokens.specs.Seen.{seen_token}
 use Rattle.dimacs_front.specs.declared.refused.TextRefused.TheVariants.{BadHeader}
 use Rattle.dimacs_front.specs.declared.line_place.LinePlace.TheVariants.{Beginning}
 use Rattle.dimacs_front.specs.declared.shown.Named.{Named}
@@ -12,7 +12,7 @@ use Rattle.dimacs_front.specs.Machine.{WrittenView, StateView, name_once, refuse
 
 -- these tokens of line n, and so the whole line
 abbrev pub tokens_said : ℕ → StateView → List (List ℕ) → StateView
-tokens_said n s ts = fold (λ u t. eaten n u (seen t)) s ts
+tokens_said n s ts = fold (λ u t. eaten n u (seen_token t)) s ts
 
 abbrev pub line_said : ℕ → StateView → List (List ℕ) → StateView
 line_said n s ts = closed n (tokens_said n s ts)

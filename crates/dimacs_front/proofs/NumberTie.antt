@@ -3,7 +3,7 @@ use Rattle.std.proofs.Common.{◌≡◌, ℕ, ◌+◌, eqb, leb, ltb, List, [], 
 use Rattle.std.proofs.lemmas.List.{length_push}
 use Rattle.std.proofs.lemmas.List.Sums.{sum_by-append}
 use Rattle.dimacs_tokens.specs.Numbers.{token_value}
-use Rattle.dimacs_tokens.specs.Seen.{seen}
+use Rattle.dimacs_tokens.specs.Seen.{seen_token}
 use Rattle.dimacs_front.specs.declared.under.Given.{Given}
 use Rattle.dimacs_front.specs.declared.line_place.LinePlace.{LinePlace}
 use Rattle.dimacs_front.specs.declared.line_place.LinePlace.TheVariants.{Beginning, Numbers}
@@ -41,7 +41,7 @@ module _ (n : ℕ) (ms : List ListLine) (gs : List Given) where
 
   pub numbers_met : (w : Below) (ts : List (List ℕ)) →
       Met among (numbers_say n w (map token_value ts)) (tokens_said n (among w) ts)
-  unfolding eaten seen
+  unfolding eaten seen_token
   numbers_met w [] = refl
   numbers_met w (t ∷ ts) =
       met_more among among n (λ v. numbers_say n v (map token_value ts))

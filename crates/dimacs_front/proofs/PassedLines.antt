@@ -1,13 +1,13 @@
 -- Lines of which nothing more is read: behind a refused token, and where the formula is over.
 use Rattle.std.proofs.Common.{◌≡◌, ℕ, List, [], ◌∷◌, refl, ap, ◌∙◌}
-use Rattle.dimacs_tokens.specs.Seen.{seen}
+use Rattle.dimacs_tokens.specs.Seen.{seen_token}
 use Rattle.dimacs_front.specs.declared.refused.TextRefused.{TextRefused}
 use Rattle.dimacs_front.specs.declared.line_place.LinePlace.TheVariants.{Over, Refused}
 use Rattle.dimacs_front.specs.Machine.{StateView, at_place, eaten, closed}
 use Rattle.dimacs_front.proofs.MachineLines.{tokens_said, line_said}
 
 refused_token : (n : ℕ) (s : StateView) (r : TextRefused) (t : List ℕ) →
-    eaten n (at_place s (Refused r)) (seen t) ≡ at_place s (Refused r)
+    eaten n (at_place s (Refused r)) (seen_token t) ≡ at_place s (Refused r)
 unfolding eaten
 refused_token n s r t = refl
 
@@ -23,7 +23,7 @@ unfolding closed
 refused_end n s r = refl
 
 over_token : (n : ℕ) (s : StateView) (t : List ℕ) →
-    eaten n (at_place s Over) (seen t) ≡ at_place s Over
+    eaten n (at_place s Over) (seen_token t) ≡ at_place s Over
 unfolding eaten
 over_token n s t = refl
 

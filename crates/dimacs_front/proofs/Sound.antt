@@ -11,7 +11,7 @@ use Rattle.std.proofs.lemmas.List.FromFn.{length-range_with_len, get_or-range_wi
 use Rattle.std.proofs.lemmas.List.Sums.{sum_by-append}
 use Rattle.dimacs_tokens.specs.Cuts.{lines, tokens}
 use Rattle.dimacs_tokens.specs.Numbers.{value_of}
-use Rattle.dimacs_tokens.specs.Seen.{SeenView, seen, begins_with}
+use Rattle.dimacs_tokens.specs.Seen.{SeenView, seen_token, begins_with}
 use Rattle.dimacs_tokens.specs.Reading.{eats, line_read, lines_read}
 use Rattle.sat_terms.specs.Literals.{IsLiteralOf}
 use Rattle.dimacs_front.specs.declared.refused.TextRefused.{TextRefused}
@@ -209,7 +209,7 @@ eats_sound : (j : TextView) (ts : List (List ℕ)) → IsSoundState j.state →
     IsSoundState (eats eat_token j ts).state
 unfolding eats
 eats_sound j [] h = h
-eats_sound j (t ∷ ts) h = eats_sound (eat_token j (seen t)) ts (eaten_sound (j.lines + 1) j.state (seen t) h)
+eats_sound j (t ∷ ts) h = eats_sound (eat_token j (seen_token t)) ts (eaten_sound (j.lines + 1) j.state (seen_token t) h)
 
 lines_sound : (j : TextView) (ls : List (List ℕ)) → IsSoundState j.state →
     IsSoundState (lines_read eat_token close_line j ls).state

@@ -5,7 +5,7 @@ use Rattle.std.proofs.lemmas.List.{take-append-le}
 use Rattle.std.proofs.lemmas.List.Sums.{fold-append}
 use Rattle.dimacs_tokens.specs.Bytes.{is_newline, is_white}
 use Rattle.dimacs_tokens.specs.Cuts.{cut_tokens, complete, rest_of, tokens}
-use Rattle.dimacs_tokens.specs.Seen.{SeenView, seen, more_seen, is_empty}
+use Rattle.dimacs_tokens.specs.Seen.{SeenView, seen_token, more_seen, is_empty}
 use Rattle.dimacs_tokens.specs.Reading.{Reading, reading_at, eats, line_read, lines_read, reading_of, read_byte, token_ends, text_ends}
 use Rattle.dimacs_tokens.proofs.ReadingSteps.{reading_append, reading_ends}
 use Rattle.dimacs_front.specs.declared.refused.TextRefused.{TextRefused}
@@ -21,12 +21,12 @@ text_behind bs = reading_of eat_token close_line text_at_start bs
 lines_kept : (j : TextView) (ts : List (List ℕ)) → (eats eat_token j ts).lines ≡ j.lines
 unfolding eats
 lines_kept j [] = refl
-lines_kept j (t ∷ ts) = lines_kept (eat_token j (seen t)) ts
+lines_kept j (t ∷ ts) = lines_kept (eat_token j (seen_token t)) ts
 
 stop_kept : (j : TextView) (ts : List (List ℕ)) → (eats eat_token j ts).stopped ≡ j.stopped
 unfolding eats
 stop_kept j [] = refl
-stop_kept j (t ∷ ts) = stop_kept (eat_token j (seen t)) ts
+stop_kept j (t ∷ ts) = stop_kept (eat_token j (seen_token t)) ts
 
 lines_counted : (j : TextView) (ls : List (List ℕ)) →
     (lines_read eat_token close_line j ls).lines ≡ j.lines + length ls
@@ -70,7 +70,7 @@ close_keeps x j h = ap (λ o. first_of o (refusal_at (closed (j.lines + 1) j.sta
 
 byte_keeps-at : (x : TextRefused) (r : Reading TextView) (b : ℕ) (m k : Bool) →
     r.state.stopped ≡ Some x →
-    (cond m (reading_at (close_line (token_ends eat_token r.state r.token)) (seen []) false) (cond k (reading_at (token_ends eat_token r.state r.token) (seen []) true) (reading_at r.state (more_seen r.token b) true))).state.stopped ≡
+    (cond m (reading_at (close_line (token_ends eat_token r.state r.token)) (seen_token []) false) (cond k (reading_at (token_ends eat_token r.state r.token) (seen_token []) true) (reading_at r.state (more_seen r.token b) true))).state.stopped ≡
     Some x
 byte_keeps-at x r b true k h = close_keeps x (token_ends eat_token r.state r.token) (token_keeps x r.state r.token h)
 byte_keeps-at x r b false true h = token_keeps x r.state r.token h

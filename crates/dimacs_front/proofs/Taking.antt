@@ -2,7 +2,7 @@
 use Rattle.std.proofs.Common.{◌≡◌, ℕ, ◌+◌, ◌-◌, ◌<◌, ◌≤◌, ◌⊎◌, false, List, [], ◌++◌, length, take, drop, Option, Some, None, Result, Ok, Err, refl, sym, ap, ◌∙◌, inl, inr, ⊎_elim, subst, append-nil, append_assoc, take-append-drop, length-append, arith}
 use Rattle.std.proofs.lemmas.Bool.{cases_lt}
 use Rattle.dimacs_tokens.specs.Cuts.{cut_lines, cut_tokens}
-use Rattle.dimacs_tokens.specs.Seen.{seen}
+use Rattle.dimacs_tokens.specs.Seen.{seen_token}
 use Rattle.dimacs_tokens.specs.Reading.{Reading, reading_at, eats, lines_read, reading_of, text_ends}
 use Rattle.dimacs_tokens.proofs.ReadingSteps.{reading_append}
 use Rattle.std.specs.Result.{IsErrAnd}
@@ -19,7 +19,7 @@ use Rattle.dimacs_front.specs.declared.input.Input.{Input}
 use Rattle.dimacs_front.specs.Limits.{most_bytes, piece_size}
 use Rattle.dimacs_front.specs.Whole.{reads, stops}
 use Rattle.dimacs_front.specs.MachineText.{TextView, text_at_start, eat_token, close_line, answer, long_by, long_answer}
-use Rattle.dimacs_front.specs.Pieces.{Gives, behind, IsStopped, IsBeyond, FeedsOn}
+use Rattle.dimacs_front.specs.Pieces.{Answered, behind, IsStopped, IsBeyond, FeedsOn}
 use Rattle.dimacs_front.specs.Answers.{IsTooMuch, IsRefused, SaysOf, CountsFaults, IsAskedFor, ReadsText, TellsText}
 use Rattle.dimacs_front.proofs.Stopping.{text_behind, lines_behind}
 use Rattle.dimacs_front.proofs.ReadingOn.{stops_behind, stops_stay, reads-short, reads-longer, reads-beyond, reads-stopped}
@@ -32,12 +32,12 @@ pub record TookText (old new : SourceView) (reader : Reading TextView) (count : 
   pub counted : length bytes ≡ count
   pub going : stops bytes ≡ None
 
-behind_nothing : text_behind [] ≡ reading_at text_at_start (seen []) false
+behind_nothing : text_behind [] ≡ reading_at text_at_start (seen_token []) false
 unfolding reading_of lines_read cut_lines cut_tokens eats
 behind_nothing = refl
 
 pub text_begun : (a : SourceView) (r : Reading TextView) →
-    r ≡ reading_at text_at_start (seen []) false → TookText a a r 0
+    r ≡ reading_at text_at_start (seen_token []) false → TookText a a r 0
 text_begun a r e = record {
   bytes = [];
   given = gives_nothing a;
@@ -124,7 +124,7 @@ text_fault old now new r n line t within fails e = record {
 
 gives_says : (left : Option (List ℕ)) (bs : List ℕ) (r : Reading TextView)
     (result : Result Input ReadRefused) → r ≡ text_behind bs → length bs ≤ most_bytes →
-    IsAtEnd left → Gives (answer (text_ends eat_token close_line r)) result → SaysOf left bs result
+    IsAtEnd left → Answered (answer (text_ends eat_token close_line r)) result → SaysOf left bs result
 gives_says left bs r (Ok input) e h at_end j = record {
   at_end = at_end;
   says = reads-short bs h ∙ ap (λ x. answer (text_ends eat_token close_line x)) (sym e) ∙ j;
@@ -138,7 +138,7 @@ gives_says left bs r (Err (OutOfMemory error)) e h at_end j = tt
 
 -- no answer of the reader itself is a read fault
 gives_counted : (before now : ℕ) (o : Result Input TextRefused) (result : Result Input ReadRefused) →
-    now ≡ before → Gives o result → CountsFaults before now result
+    now ≡ before → Answered o result → CountsFaults before now result
 gives_counted before now o (Ok input) stands j = stands
 gives_counted before now o (Err (Text x)) stands j = stands
 gives_counted before now o (Err (ReadFault line)) stands j = absurd j
@@ -148,7 +148,7 @@ gives_counted before now o (Err (OutOfMemory error)) stands j = stands
 pub text_end : (old now new : SourceView) (r : Reading TextView) (n m : ℕ) (buf : List ℕ)
     (result : Result Input ReadRefused) → TookText old now r n → n ≤ most_bytes → m ≡ 0 →
     GivesBytes now new (take m buf) × (m ≡ 0 → IsAtEnd new.left) →
-    Gives (answer (text_ends eat_token close_line r)) result → ReadsText old new result
+    Answered (answer (text_ends eat_token close_line r)) result → ReadsText old new result
 text_end old now new r n m buf result t within e h j =
     let none : GivesBytes now new [] = subst (λ (k : ℕ). GivesBytes now new (take k buf)) e h.0 in
     let given = gives_more old now new t.bytes [] t.given none in

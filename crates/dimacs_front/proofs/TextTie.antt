@@ -1,7 +1,7 @@
 -- A text says to the machine what it says.
 use Rattle.std.proofs.Common.{◌≡◌, ℕ, ◌+◌, Bool, true, false, cond, leb, List, [], ◌∷◌, take, length, Option, Some, None, Result, Ok, Err, refl, sym, subst, ap, ◌∙◌}
 use Rattle.dimacs_tokens.specs.Cuts.{tokens, lines, complete}
-use Rattle.dimacs_tokens.specs.Seen.{seen}
+use Rattle.dimacs_tokens.specs.Seen.{seen_token}
 use Rattle.dimacs_tokens.specs.Reading.{eats, line_read, lines_read}
 use Rattle.dimacs_front.specs.declared.refused.TextRefused.{TextRefused}
 use Rattle.dimacs_front.specs.declared.refused.TextRefused.TheVariants.{TextTooLong}
@@ -24,7 +24,7 @@ tokens_eaten : (n : ℕ) (s : StateView) (o : Option TextRefused) (ts : List (Li
     eats eat_token (text_at n s o) ts ≡ text_at n (tokens_said (n + 1) s ts) o
 unfolding eats
 tokens_eaten n s o [] = refl
-tokens_eaten n s o (t ∷ ts) = tokens_eaten n (eaten (n + 1) s (seen t)) o ts
+tokens_eaten n s o (t ∷ ts) = tokens_eaten n (eaten (n + 1) s (seen_token t)) o ts
 
 line_eaten : (n : ℕ) (s : StateView) (line : List ℕ) →
     line_read eat_token close_line (text_at n s None) line ≡

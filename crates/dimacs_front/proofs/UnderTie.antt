@@ -1,7 +1,7 @@
 -- An under line says to the machine what it says.
 use Rattle.std.proofs.Common.{◌≡◌, ℕ, Bool, true, false, cond, eqb, leb, List, [], ◌∷◌, ◌++◌, map, ℤ, nat_abs, Option, Some, None, Result, Ok, Err, refl, sym, ap, ◌∙◌, append-nil, append_assoc}
 use Rattle.dimacs_tokens.specs.Numbers.{token_value}
-use Rattle.dimacs_tokens.specs.Seen.{seen, is_nil}
+use Rattle.dimacs_tokens.specs.Seen.{seen_token, is_nil}
 use Rattle.dimacs_front.specs.declared.refused.TextRefused.{TextRefused}
 use Rattle.dimacs_front.specs.declared.refused.TextRefused.TheVariants.{UnderBad, UnderUnended}
 use Rattle.dimacs_front.specs.declared.line_place.LinePlace.TheVariants.{Under, UnderEnd}
@@ -42,7 +42,7 @@ module _ (n : ℕ) where
   end_closed s = refl
 
   behind_end : (s : StateView) (t : List ℕ) →
-      eaten n (at_place s UnderEnd) (seen t) ≡ refuse s (UnderBad n)
+      eaten n (at_place s UnderEnd) (seen_token t) ≡ refuse s (UnderBad n)
   unfolding eaten
   behind_end s t = refl
 
@@ -85,6 +85,6 @@ module _ (n : ℕ) where
   unended s = refl
 
   pub under_met : (s : StateView) (ts : List (List ℕ)) → Gives s ts
-  unfolding eaten seen
+  unfolding eaten seen_token
   under_met s [] = unended s
   under_met s (t ∷ ts) = value_met s (token_value t) ts (λ u. under_met u ts)

@@ -11,8 +11,8 @@ pub record ListLine : Type 0 where
   pub line : ℕ
   pub values : List ℤ
 
--- the numbers up to the 0 that ends the line: each is one that the line may hold, and nothing stands
--- behind the 0
+-- the numbers up to the 0 that ends the line: each is one that the line may hold, and nothing
+-- stands behind the 0
 abbrev pub list_says : (ℤ → Bool) → TextRefused → TextRefused → List (Option ℤ) →
     Result (List ℤ) TextRefused
 list_says may_hold bad unended [] = Err unended

@@ -1,5 +1,5 @@
--- What the machine answers at the end of a text, where no line of it is refused. Here n is the number
--- of the last line.
+-- What the machine answers at the end of a text, where no line of it is refused. Here n is the
+-- number of the last line.
 use Rattle.std.specs.Prelude.{ℕ, Bool, not, cond, ◌==◌, ◌||◌, nat_le, List, [], ◌∷◌, length, Option, Some, None, Result, Ok, Err}
 use Rattle.std.specs.Prelude.{option_map}
 use Rattle.std.specs.List.{filter, range_with_len}
@@ -54,7 +54,8 @@ with_shown n w gs None = Err (TooManyShown n)
 
 abbrev pub by_end : Option TextRefused → ℕ → StateView → Result Input TextRefused
 by_end (Some r) n s = Err r
-by_end None n s = with_shown n s.formula s.under (few (names_shown s.given s.named s.formula.variables))
+by_end None n s =
+    with_shown n s.formula s.under (few (names_shown s.given s.named s.formula.variables))
 
 unfoldable pub end_of : ℕ → StateView → Result Input TextRefused
 end_of n s = by_end (end_refusal n s) n s

@@ -1,5 +1,5 @@
--- What the reader's machine makes of a whole text: its answer, and the refusal of the lowest refused
--- line among those that byte 10 ends.
+-- What the reader's machine makes of a whole text: its answer, and the refusal of the lowest
+-- refused line among those that byte 10 ends.
 use Rattle.std.specs.Prelude.{ℕ, ◌+◌, cond, nat_le, List, length, take, Option, Some, None, Result, Err}
 use Rattle.dimacs_tokens.specs.Cuts.{lines, complete}
 use Rattle.dimacs_tokens.specs.Seen.{SeenView}

@@ -9,11 +9,11 @@ use Rattle.dimacs_front.specs.Limits.{most_bytes}
 use Rattle.dimacs_front.specs.MachineText.{TextView, eat_token, close_line, long_answer}
 
 -- the answer, unless there was no memory
-abbrev pub Gives : Result Input TextRefused → Result Input ReadRefused → Type 0
-Gives o (Ok input) = o ≡ Ok input
-Gives o (Err (Text r)) = o ≡ Err r
-Gives o (Err (ReadFault line)) = ⊥
-Gives o (Err (OutOfMemory e)) = Unit {0}
+abbrev pub Answered : Result Input TextRefused → Result Input ReadRefused → Type 0
+Answered o (Ok input) = o ≡ Ok input
+Answered o (Err (Text r)) = o ≡ Err r
+Answered o (Err (ReadFault line)) = ⊥
+Answered o (Err (OutOfMemory e)) = Unit {0}
 
 -- the reader behind some more bytes
 abbrev pub behind : Reading TextView → List ℕ → Reading TextView

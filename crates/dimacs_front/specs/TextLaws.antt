@@ -56,7 +56,8 @@ variables vs = map (λ v. Some (pos v)) vs
 -- a show line of variables, which a 0 ends, shows just these, above the header and below
 abbrev pub AShowLineShowsItsVariables : Type 0
 AShowLineShowsItsVariables =
-    (n : ℕ) (o : Option Below) (ms : List ListLine) (gs : List Given) (ts : List (List ℕ)) (vs : List ℕ) →
+    (n : ℕ) (o : Option Below) (ms : List ListLine) (gs : List Given) (ts : List (List ℕ))
+    (vs : List ℕ) →
     map token_value ts ≡ variables vs ++ Some (pos 0) ∷ [] → All IsVariable vs →
     line_says n (record { below = o; shows = ms; given = gs; over = false }) (show_words ++ ts) ≡
     Ok (record {
@@ -94,11 +95,12 @@ ShowLinesRise =
 abbrev pub ALineWithoutTokensChangesNothing : Type 0
 ALineWithoutTokensChangesNothing = (n : ℕ) (s : Said) → line_says n s [] ≡ Ok s
 
--- the formula is over from a line below the header whose first byte is `%` (37); no line behind that
--- changes anything
+-- the formula is over from a line below the header whose first byte is `%` (37); no line behind
+-- that changes anything
 abbrev pub TheFormulaEndsAtAPercent : Type 0
 TheFormulaEndsAtAPercent =
-    (n m : ℕ) (w : Below) (ms : List ListLine) (gs : List Given) (t : List ℕ) (ts us : List (List ℕ)) →
+    (n m : ℕ) (w : Below) (ms : List ListLine) (gs : List Given) (t : List ℕ)
+    (ts us : List (List ℕ)) →
     list_begins t 37 ≡ true →
     (line_says n (record { below = Some w; shows = ms; given = gs; over = false }) (t ∷ ts) ≡
     Ok (record { below = Some w; shows = ms; given = gs; over = true }))

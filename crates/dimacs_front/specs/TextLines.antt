@@ -12,8 +12,8 @@ use Rattle.dimacs_front.specs.HeaderLines.{Below, header_says}
 use Rattle.dimacs_front.specs.NumberLines.{numbers_say}
 use Rattle.dimacs_front.specs.ListLines.{ListLine, show_says, under_says}
 
--- what the lines so far say: the header and the numbers below it, the show lines in their order, and
--- whether the formula is over
+-- what the lines so far say: the header and the numbers below it, the show lines in their order,
+-- and whether the formula is over
 pub record Said : Type 0 where
   pub below : Option Below
   pub shows : List ListLine
@@ -60,8 +60,8 @@ comment_says n s ts =
     (needs (not ((n == 1) && (begins_by saved_words ts || begins_by met_words ts))) (NotBuilt n)
     (Ok s)))
 
--- a line whose first token is t, and no comment: up to the header, and below it. The bytes 112 and 37
--- are `p` and `%`
+-- a line whose first token is t, and no comment: up to the header, and below it. The bytes 112 and
+-- 37 are `p` and `%`
 abbrev pub plain_says : ℕ → Said → Option Below → List ℕ → List (List ℕ) →
     Result Said TextRefused
 plain_says n s None t ts =

@@ -53,8 +53,8 @@ pub enum TextRefused {
     /// The text has too many bytes.
     #[error("line {line}: the text is too long")]
     TextTooLong { line: u64 },
-    /// An under line holds something that is no literal, one of a variable that is not shown, or one
-    /// whose negation is given before it.
+    /// An under line holds something that is no literal, one of a variable that is not shown, or
+    /// one whose negation is given before it.
     #[error("line {line}: an under line holds what is no literal that can be given")]
     UnderBad { line: u64 },
     /// An under line has no 0.

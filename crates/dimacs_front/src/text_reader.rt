@@ -1,10 +1,10 @@
 //! A text read byte by byte. A line costs no memory, however long it is: only what is seen of its
 //! open token is kept.
 ghost use Rattle.std.specs.Prelude.{◌≡◌, ◌+◌, ◌^◌, ◌<◌, ◌≤◌, false, [], length, fold, OnOk};
-ghost use Rattle.dimacs_tokens.specs.Seen.{seen};
+ghost use Rattle.dimacs_tokens.specs.Seen.{seen_token};
 ghost use Rattle.dimacs_tokens.specs.Reading.{reading_at, read_byte, token_ends, text_ends};
 ghost use Rattle.dimacs_front.specs.MachineText.{text_at_start, eat_token, close_line, answer};
-ghost use Rattle.dimacs_front.specs.Pieces.{Gives};
+ghost use Rattle.dimacs_front.specs.Pieces.{Answered};
 
 use crate::text_state::TextState;
 use crate::{Input, ReadRefused, TextRefused};
@@ -36,7 +36,7 @@ impl Model for TextReader {
 impl TextReader {
     /// Before the first byte. Takes no memory.
     pub fn make(alloc: Global) -> Self
-        ensures { result ≡ reading_at text_at_start (seen []) false }
+        ensures { result ≡ reading_at text_at_start (seen_token []) false }
     {
         TextReader {
             lines: 0,
@@ -100,7 +100,7 @@ impl TextReader {
     fn end_token(&mut self) -> Result<(), AllocError>
         requires { self.old.state.lines + 1 < 2 ^ 64 }
         ensures { OnOk result (self.new ≡ reading_at
-            (token_ends eat_token self.old.state self.old.token) (seen []) self.old.in_line) }
+            (token_ends eat_token self.old.state self.old.token) (seen_token []) self.old.in_line) }
     {
         if !self.token.is_empty() {
             self.state.eat(self.lines + 1, &self.token)?;
@@ -126,7 +126,7 @@ impl TextReader {
     #[tactic(auto, unfolding(dimacs_tokens::specs::Reading::text_ends))]
     pub fn finish(mut self) -> Result<Input, ReadRefused>
         requires { self.state.lines + 1 < 2 ^ 64 }
-        ensures { Gives (answer (text_ends eat_token close_line self)) result }
+        ensures { Answered (answer (text_ends eat_token close_line self)) result }
     {
         if self.in_line {
             self.end_token()?;
@@ -137,7 +137,7 @@ impl TextReader {
 
     /// The answer behind the last line.
     fn answer(self) -> Result<Input, ReadRefused>
-        ensures { Gives (answer self.state) result }
+        ensures { Answered (answer self.state) result }
     {
         if let Some(refusal) = self.stopped {
             return Err(ReadRefused::Text(refusal));

@@ -3,8 +3,8 @@ use crate::tests::read;
 use crate::{ReadRefused, TextRefused};
 use std::alloc::{AllocError, Global};
 
-/// The name and the line of the text's refusal, read by so many bytes at a call, and for a number of
-/// clauses that is not the header's both numbers.
+/// The name and the line of the text's refusal, read by so many bytes at a call, and for a number
+/// of clauses that is not the header's both numbers.
 fn answer(alloc: Global, text: &[u8], step: usize) -> Result<String, AllocError> {
     match read(alloc, text, step, &[])? {
         Err(ReadRefused::Text(TextRefused::ClauseCount { line, said, found })) => {

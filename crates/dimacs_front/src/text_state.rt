@@ -6,7 +6,7 @@ ghost use Rattle.dimacs_front.specs.Machine.{formula_begun, header_ended, closed
 ghost use Rattle.sat_terms.specs.Subjects.{IsVariableList};
 ghost use Rattle.dimacs_front.specs.TextEnds.{first_misplaced};
 ghost use Rattle.dimacs_front.specs.MachineEnd.{end_refusal, with_under, end_of};
-ghost use Rattle.dimacs_front.specs.Pieces.{Gives};
+ghost use Rattle.dimacs_front.specs.Pieces.{Answered};
 
 use crate::comment_line::CommentPlace;
 use crate::header_line::{HeaderPlace, natural};
@@ -187,7 +187,7 @@ impl TextState {
     /// The input of a text that ends in this line, or why it is refused.
     #[tactic(auto, unfolding(crate::specs::MachineEnd::end_of))]
     pub fn finish(self, line: u64) -> Result<Input, ReadRefused>
-        ensures { Gives (end_of line self) result }
+        ensures { Answered (end_of line self) result }
     {
         if let Some(refusal) = self.end_refusal(line) {
             return Err(ReadRefused::Text(refusal));
@@ -202,7 +202,7 @@ impl TextState {
     /// The input with these shown variables, or why its given literals are refused.
     fn with_under(self, shown: Items<u32>) -> Result<Input, ReadRefused>
         requires { IsVariableList shown }
-        ensures { Gives (with_under self.formula self.under shown
+        ensures { Answered (with_under self.formula self.under shown
             (first_misplaced shown [] self.under)) result }
     {
         match self.under.cube(self.alloc, shown.as_slice())? {

@@ -10,7 +10,7 @@ use Rattle.std.proofs.lemmas.Str.Parse.{IsNumeralModel, numerals_by_value, tells
 use Rattle.std.proofs.lemmas.Fmt.{digits_decimal, digits_value-decimal, decimal_nonempty}
 use Rattle.dimacs_tokens.specs.declared.numerals.Numeral.TheVariants.{Whole}
 use Rattle.dimacs_tokens.specs.Numbers.{size_cap, digits_say, numeral, value_of}
-use Rattle.dimacs_tokens.specs.Seen.{seen}
+use Rattle.dimacs_tokens.specs.Seen.{seen_token}
 use Rattle.dimacs_tokens.specs.Laws.{WrittenNumbersHaveTheirValue, LeadingZerosChangeNothing, WordsAreToldByHead}
 
 own : IsNumeralModel (λ ds. all_ascii_digits ds ≡ true) (digits_value 10)
@@ -61,5 +61,5 @@ take_tells (suc n) (x ∷ xs) [] h = refl
 take_tells (suc n) (x ∷ xs) (y ∷ ys) h = ap (λ r. eqb x y && r) (take_tells n xs ys (omega arith))
 
 pub words_by_head : WordsAreToldByHead
-unfolding seen
+unfolding seen_token
 words_by_head t word h = take_tells 8 t word h

@@ -2,7 +2,7 @@
 use Rattle.std.proofs.Common.{◌≡◌, ℕ, cond, ltb, List, [], ◌∷◌, ◌++◌, length, take, sym, ap, ◌∙◌, inl, inr, arith}
 use Rattle.std.proofs.lemmas.Bool.{cases_lt, cond-true, cond-false, lt-ltb, le-ltb}
 use Rattle.std.proofs.lemmas.List.{take_all, take-append-le, length-take-le, length_push}
-use Rattle.dimacs_tokens.specs.Seen.{seen, more_seen}
+use Rattle.dimacs_tokens.specs.Seen.{seen_token, more_seen}
 use Rattle.dimacs_tokens.proofs.NumeralSteps.{numeral_push}
 
 -- the first n bytes, with one more byte at the end
@@ -18,6 +18,6 @@ take_push n t b =
           ∙ sym (cond-false _ _ _ (le-ltb (length (take n t)) n (omega (arith, length-take-le n t long))))
     ]
 
-pub seen_push : (t : List ℕ) (b : ℕ) → seen (t ++ b ∷ []) ≡ more_seen (seen t) b
-unfolding seen more_seen
+pub seen_push : (t : List ℕ) (b : ℕ) → seen_token (t ++ b ∷ []) ≡ more_seen (seen_token t) b
+unfolding seen_token more_seen
 seen_push t b = λ i. record { head = take_push 8 t b i; number = numeral_push t b i }

@@ -9,16 +9,16 @@ use Rattle.dimacs_tokens.specs.Bytes.{is_newline, is_white}
 use Rattle.dimacs_tokens.specs.Cuts.{Cut, with_part, token_byte, nothing_cut, cut_tokens, lines, tokens}
 use Rattle.dimacs_tokens.specs.Seen.{is_nil}
 use Rattle.dimacs_tokens.specs.Texts.{is_line}
-use Rattle.dimacs_tokens.specs.Laws.{is_plain, is_token, OnlyTokensAreCut, NoByteIsLost, PartedTokensAreCut}
+use Rattle.dimacs_tokens.specs.Laws.{is_token_byte, is_token, OnlyTokensAreCut, NoByteIsLost, PartedTokensAreCut}
 use Rattle.dimacs_tokens.proofs.LineLaws.{IsClean, list_all_push, lines_are_lines}
 
 abbrev cut_at : List (List ℕ) → List ℕ → Cut
 cut_at w p = record { whole = w; open_part = p }
 
 abbrev CleanTokens : Cut → Type 0
-CleanTokens c = IsClean is_token is_plain c
+CleanTokens c = IsClean is_token is_token_byte c
 
-token_passes : (ws : List (List ℕ)) (part : List ℕ) → list_all is_token ws ≡ true → list_all is_plain part ≡ true → list_all is_token (with_part ws part) ≡ true
+token_passes : (ws : List (List ℕ)) (part : List ℕ) → list_all is_token ws ≡ true → list_all is_token_byte part ≡ true → list_all is_token (with_part ws part) ≡ true
 token_passes ws [] h e = h
 token_passes ws (b ∷ bs) h e = list_all_push is_token ws (b ∷ bs) h e
 
@@ -27,7 +27,7 @@ clean_token_byte c b true e n h =
     record { parts = token_passes c.whole c.open_part h.parts h.bytes; bytes = refl }
 clean_token_byte c b false e n h = record {
   parts = h.parts;
-  bytes = list_all_push is_plain c.open_part b h.bytes (and_from _ _ (not_from_false (is_white b) e) n);
+  bytes = list_all_push is_token_byte c.open_part b h.bytes (and_from _ _ (not_from_false (is_white b) e) n);
 }
 
 clean_fold : (c : Cut) (line : List ℕ) → is_line line ≡ true → CleanTokens c → CleanTokens (fold token_byte c line)
@@ -78,10 +78,10 @@ unfolding cut_tokens
 no_byte_lost line = fold_keeps nothing_cut line
 
 -- the bytes of a token join the open part, and white space behind it ends it
-fold-plain : (w : List (List ℕ)) (p bs : List ℕ) → list_all is_plain bs ≡ true → fold token_byte (cut_at w p) bs ≡ cut_at w (p ++ bs)
+fold-plain : (w : List (List ℕ)) (p bs : List ℕ) → list_all is_token_byte bs ≡ true → fold token_byte (cut_at w p) bs ≡ cut_at w (p ++ bs)
 fold-plain w p [] h = ap (cut_at w) (sym (append-nil p))
 fold-plain w p (b ∷ bs) h =
-    let k = and_parts (is_plain b) (list_all is_plain bs) h in
+    let k = and_parts (is_token_byte b) (list_all is_token_byte bs) h in
     let dark = not-true (is_white b) (and_parts (not (is_white b)) (not (is_newline b)) k.0).0 in
     ap (λ c. fold token_byte c bs) (cond-false (is_white b) (cut_at (with_part w p) []) (cut_at w (p ++ b ∷ [])) dark)
     ∙ fold-plain w (p ++ b ∷ []) bs k.1
@@ -108,7 +108,7 @@ fold-tokens : (w ts : List (List ℕ)) (gap : List ℕ) → list_all is_token ts
 fold-tokens w [] gap h some g = ap (λ v. cut_at v []) (sym (append-nil w))
 fold-tokens w (t ∷ ts) gap h some g =
     let k = and_parts (is_token t) (list_all is_token ts) h in
-    let plain = (and_parts (not (is_nil t)) (list_all is_plain t) k.0).1 in
+    let plain = (and_parts (not (is_nil t)) (list_all is_token_byte t) k.0).1 in
     fold-append token_byte (cut_at w []) (t ++ gap) (flat_map (λ u. u ++ gap) ts)
     ∙ ap (λ c. fold token_byte c (flat_map (λ u. u ++ gap) ts)) (fold-append token_byte (cut_at w []) t gap ∙ ap (λ c. fold token_byte c gap) (fold-plain w [] t plain) ∙ fold-gap w t gap some g ∙ ap (λ v. cut_at v []) (with_token w t k.0))
     ∙ fold-tokens (w ++ t ∷ []) ts gap k.1 some g

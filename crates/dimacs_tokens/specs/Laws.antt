@@ -6,7 +6,7 @@ use Rattle.std.specs.Fmt.{signed_decimal}
 use Rattle.dimacs_tokens.specs.Bytes.{is_newline, is_white}
 use Rattle.dimacs_tokens.specs.Cuts.{lines, tokens}
 use Rattle.dimacs_tokens.specs.Numbers.{size_cap, token_value}
-use Rattle.dimacs_tokens.specs.Seen.{seen, is_nil}
+use Rattle.dimacs_tokens.specs.Seen.{seen_token, is_nil}
 use Rattle.dimacs_tokens.specs.Texts.{is_line, text_of}
 
 -- the lines of a text that ends its lines are just these
@@ -20,12 +20,12 @@ ALastLineNeedsNoEnd =
     is_nil line ≡ false → lines (text_of ls ++ line) ≡ ls ++ line ∷ []
 
 -- neither white space nor byte 10
-abbrev pub is_plain : ℕ → Bool
-is_plain b = not (is_white b) && not (is_newline b)
+abbrev pub is_token_byte : ℕ → Bool
+is_token_byte b = not (is_white b) && not (is_newline b)
 
 -- a token: at least one byte, and neither white space nor byte 10
 abbrev pub is_token : List ℕ → Bool
-is_token t = not (is_nil t) && list_all is_plain t
+is_token t = not (is_nil t) && list_all is_token_byte t
 
 -- all that is cut out of a text's lines are tokens
 abbrev pub OnlyTokensAreCut : Type 0
@@ -58,4 +58,4 @@ LeadingZerosChangeNothing =
 -- eight bytes tell a token from each shorter word
 abbrev pub WordsAreToldByHead : Type 0
 WordsAreToldByHead =
-    (t word : List ℕ) → length word < 8 → bytes_eq (seen t).head word ≡ bytes_eq t word
+    (t word : List ℕ) → length word < 8 → bytes_eq (seen_token t).head word ≡ bytes_eq t word

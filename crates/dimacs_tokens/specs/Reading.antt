@@ -4,7 +4,7 @@
 use Rattle.std.specs.Prelude.{ℕ, Bool, true, false, not, cond, List, [], fold}
 use Rattle.dimacs_tokens.specs.Bytes.{is_newline, is_white}
 use Rattle.dimacs_tokens.specs.Cuts.{cut_tokens, tokens, complete, rest_of}
-use Rattle.dimacs_tokens.specs.Seen.{SeenView, seen, more_seen, is_nil, is_empty}
+use Rattle.dimacs_tokens.specs.Seen.{SeenView, seen_token, more_seen, is_nil, is_empty}
 
 -- where a reader stands: the state by all that is closed, what is seen of the open token,
 -- and whether the open line has bytes
@@ -19,7 +19,7 @@ reading_at s t b = record { state = s; token = t; in_line = b }
 module _ {S : Type 0} (eat : S → SeenView → S) where
   -- the state after these tokens
   unfoldable pub eats : S → List (List ℕ) → S
-  eats s ts = fold (λ u t. eat u (seen t)) s ts
+  eats s ts = fold (λ u t. eat u (seen_token t)) s ts
 
   -- the state where the open token ends, if there is one
   abbrev pub token_ends : S → SeenView → S
@@ -28,7 +28,7 @@ module _ {S : Type 0} (eat : S → SeenView → S) where
   -- the reader after some bytes of a line, from the state at the line's start
   abbrev pub within_line : S → List ℕ → Reading S
   within_line s rest =
-      reading_at (eats s (cut_tokens rest).whole) (seen (cut_tokens rest).open_part)
+      reading_at (eats s (cut_tokens rest).whole) (seen_token (cut_tokens rest).open_part)
       (not (is_nil rest))
 
 module _ {S : Type 0} (eat : S → SeenView → S) (close : S → S) where
@@ -49,9 +49,9 @@ module _ {S : Type 0} (eat : S → SeenView → S) (close : S → S) where
   unfoldable pub read_byte : Reading S → ℕ → Reading S
   read_byte r b =
       cond (is_newline b)
-      (reading_at (close (token_ends eat r.state r.token)) (seen []) false)
+      (reading_at (close (token_ends eat r.state r.token)) (seen_token []) false)
       (cond (is_white b)
-      (reading_at (token_ends eat r.state r.token) (seen []) true)
+      (reading_at (token_ends eat r.state r.token) (seen_token []) true)
       (reading_at r.state (more_seen r.token b) true))
 
   -- the state where the text ends

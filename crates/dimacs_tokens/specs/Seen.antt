@@ -9,8 +9,8 @@ pub record SeenView : Type 0 where
   pub number : Numeral
 
 -- what is seen of a token
-unfoldable pub seen : List ℕ → SeenView
-seen t = record { head = take 8 t; number = numeral t }
+unfoldable pub seen_token : List ℕ → SeenView
+seen_token t = record { head = take 8 t; number = numeral t }
 
 -- whether a list has no element
 abbrev pub is_nil : {X : Type 0} → List X → Bool

@@ -2,7 +2,7 @@
 //! a number. So a token of any length costs no memory. No word of a DIMACS text has eight bytes.
 ghost use Rattle.std.specs.Prelude.{◌≡◌, ℕ, ◌<◌, List, [], ◌∷◌, ◌++◌, length};
 ghost use Rattle.std.specs.Str.{bytes_eq};
-ghost use Rattle.dimacs_tokens.specs.Seen.{seen, more_seen, is_empty, begins_with};
+ghost use Rattle.dimacs_tokens.specs.Seen.{seen_token, more_seen, is_empty, begins_with};
 
 use crate::Numeral;
 use arrayvec::ArrayVec;
@@ -28,9 +28,9 @@ impl Model for Seen {
 
 impl Seen {
     /// No byte is seen.
-    #[tactic(auto, unfolding(crate::specs::Seen::seen, crate::specs::Numbers::numeral))]
+    #[tactic(auto, unfolding(crate::specs::Seen::seen_token, crate::specs::Numbers::numeral))]
     pub fn make() -> Self
-        ensures { result ≡ seen [] }
+        ensures { result ≡ seen_token [] }
     {
         Seen {
             head: ArrayVec::new(),
@@ -39,9 +39,9 @@ impl Seen {
     }
 
     /// Begins the next token.
-    #[tactic(auto, unfolding(crate::specs::Seen::seen, crate::specs::Numbers::numeral))]
+    #[tactic(auto, unfolding(crate::specs::Seen::seen_token, crate::specs::Numbers::numeral))]
     pub fn begin(&mut self)
-        ensures { self.new ≡ seen [] }
+        ensures { self.new ≡ seen_token [] }
     {
         self.head.clear();
         self.number = Numeral::Nothing;
@@ -50,7 +50,8 @@ impl Seen {
     /// Takes the token's next byte.
     pub fn push(&mut self, byte: u8)
         ensures step { self.new ≡ more_seen self.old byte }
-        ensures meaning { (t : List ℕ) → self.old ≡ seen t → self.new ≡ seen (t ++ byte ∷ []) }
+        ensures meaning { (t : List ℕ) → self.old ≡ seen_token t →
+            self.new ≡ seen_token (t ++ byte ∷ []) }
     {
         if !self.head.is_full() {
             self.head.push(byte);

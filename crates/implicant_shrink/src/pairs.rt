@@ -1,4 +1,5 @@
-//! Which clauses of the formula hold a literal and its negation, so that each assignment meets them.
+//! Which clauses of the formula hold a literal and its negation, so that each assignment meets
+//! them.
 ghost use Rattle.std.specs.Prelude.{◌≡◌, ◌<◌, ◌^◌, map, IfOk};
 ghost use Rattle.std.specs.List.{All};
 ghost use Rattle.sat_terms.specs.Cubes.{has_pair};

@@ -7,7 +7,7 @@ use Rattle.std.proofs.lemmas.List.{take-append-le, take-take, take_more, length-
 use Rattle.std.proofs.lemmas.List.Folds.{list_all-append}
 use Rattle.sat_terms.proofs.CubeLemmas.{int_eq-same}
 use Rattle.chrono_trail.specs.declared.item.Item.{Item}
-use Rattle.chrono_trail.specs.Items.{item_of, upto, are_distinct}
+use Rattle.chrono_trail.specs.Items.{item_of, is_upto, are_distinct}
 use Rattle.conflict_analysis.proofs.Places.{none_before}
 use Rattle.implicant_shrink.specs.Levels.{marked}
 use Rattle.live_engine.specs.Values.{literal_at, has_value, AreCopied}
@@ -35,17 +35,17 @@ all_fewer p (suc m) (suc n) (i ∷ items) few h =
     let (now, rest) = and_parts (p i) (list_all p (take n items)) h in
     and_from (p i) (list_all p (take m items)) now (all_fewer p m n items (omega arith) rest)
 
-pub copied_back : (items : List Item) (level place count : ℕ) (values : List Bool) → place ≤ length items → list_all (upto level) (take place items) ≡ true →
-    AreCopied items count values → AreCopied (filter (upto level) items) (min count place) values
+pub copied_back : (items : List Item) (level place count : ℕ) (values : List Bool) → place ≤ length items → list_all (is_upto level) (take place items) ≡ true →
+    AreCopied items count values → AreCopied (filter (is_upto level) items) (min count place) values
 copied_back items level place count values inside low h =
-    let front = filter_front (upto level) place items low in
-    let long = length-append (take place items) (filter (upto level) (drop place items)) in
+    let front = filter_front (is_upto level) place items low in
+    let long = length-append (take place items) (filter (is_upto level) (drop place items)) in
     let short = length-take place items in
     record {
       within = (let whole = ap length front in omega arith);
       same =
           ap (λ xs. list_all (has_value (marked values)) (take (min count place) xs)) front
-          ∙ ap (list_all (has_value (marked values))) (take-append-le (min count place) (take place items) (filter (upto level) (drop place items)) (omega arith))
+          ∙ ap (list_all (has_value (marked values))) (take-append-le (min count place) (take place items) (filter (is_upto level) (drop place items)) (omega arith))
           ∙ ap (list_all (has_value (marked values))) (take-take (min count place) place items (omega arith))
           ∙ all_fewer (has_value (marked values)) (min count place) count items (omega arith) h.same;
     }

@@ -10,7 +10,7 @@ use Rattle.chrono_trail.specs.Trails.{TrailView, IsTrail}
 use Rattle.propagation.specs.Settled.{PropagatorView, Watches}
 use Rattle.propagation.proofs.Settled.{settled_unseen}
 use Rattle.live_engine.specs.declared.search.Search.{Search}
-use Rattle.live_engine.specs.Searching.{formula_of, IsGround}
+use Rattle.live_engine.specs.Searching.{search_formula, IsGround}
 use Rattle.live_engine.specs.Learning.{DropsLemmas}
 use Rattle.live_engine.proofs.Grounds.{ground_with}
 
@@ -56,7 +56,7 @@ drops old keep arena propagator trail g clauses base items level seen variables 
         base = rw (clauses, base) (dropped_based old.arena.base keep old.arena.clauses g.based);
         formula = ap (λ n. take n arena.clauses) base ∙ ap (take old.arena.base) clauses ∙ dropped_front old.arena.base keep old.arena.clauses g.based;
         named = rw clauses (dropped_all old.arena.base keep old.arena.clauses g.based (All (IsLiteralOf old.variables)) g.named);
-        follow = rw clauses (dropped_all old.arena.base keep old.arena.clauses g.based (Follows (formula_of old)) g.follow);
+        follow = rw clauses (dropped_all old.arena.base keep old.arena.clauses g.based (Follows (search_formula old)) g.follow);
         known = known;
         places = (let few = dropped_few old.arena.base keep old.arena.clauses g.based in let long = ap length clauses in let room = g.places in omega arith);
         settled = settled_unseen arena.clauses propagator trail watches seen;

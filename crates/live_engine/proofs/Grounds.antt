@@ -11,14 +11,14 @@ use Rattle.propagation.specs.Settled.{PropagatorView, IsSettled}
 use Rattle.projected_decide.specs.Orders.{OrderView}
 use Rattle.implicant_shrink.specs.Shrinking.{ShrinkerView, IsFor}
 use Rattle.live_engine.specs.declared.search.Search.{Search}
-use Rattle.live_engine.specs.Searching.{formula_of, IsGround, IsSameJob}
+use Rattle.live_engine.specs.Searching.{search_formula, IsGround, IsSameJob}
 
 -- clauses, what propagates them and the trail, as a search stands on them
 pub record StandsOn (s : Search) (arena : Clauses) (propagator : PropagatorView) (trail : TrailView) : Type 0 where
   pub base : arena.base ≤ length arena.clauses
-  pub formula : take arena.base arena.clauses ≡ formula_of s
+  pub formula : take arena.base arena.clauses ≡ search_formula s
   pub named : All (All (IsLiteralOf s.variables)) arena.clauses
-  pub follow : All (Follows (formula_of s)) arena.clauses
+  pub follow : All (Follows (search_formula s)) arena.clauses
   pub known : propagator.known ≡ length arena.clauses
   pub places : length arena.clauses ≤ propagator.places
   pub settled : IsSettled arena.clauses propagator trail
@@ -45,7 +45,7 @@ module _ (s : Search) (g : IsGround s) where
 
   -- the job and its cubes may be others too
   pub ground_with : (arena : Clauses) (propagator : PropagatorView) (trail : TrailView) (order : OrderView) (shrinker : ShrinkerView) (prefix : List ℤ) (base : ℕ) (counts : Vec ℕ Global) (leaves : ℕ) (found : Vec (List ℤ) Global) →
-      StandsOn s arena propagator trail → order.variables ≡ s.order.variables → order.order ≡ s.order.order → IsFor (formula_of s) shrinker →
+      StandsOn s arena propagator trail → order.variables ≡ s.order.variables → order.order ≡ s.order.order → IsFor (search_formula s) shrinker →
       IsCube s.shown.items prefix → length counts.items ≡ length s.counts.items → leaves ≤ 2 ^ 62 → All (IsCube s.shown.items) found.items →
       IsGround (record s { arena = arena; propagator = propagator; trail = trail; order = order; shrinker = shrinker; prefix = prefix; base = base; counts = counts; leaves = leaves; found = found })
   ground_with arena propagator trail order shrinker prefix base counts leaves found on ordered same for_it cube long few cubes = record {
@@ -102,7 +102,7 @@ ground_valued s g values has_model copied long = record {
 }
 
 -- the formula stays as lemmas join behind it
-pub formula_same : (old new : Search) → old.arena.base ≤ length old.arena.clauses → IsSameJob old new → formula_of new ≡ formula_of old
+pub formula_same : (old new : Search) → old.arena.base ≤ length old.arena.clauses → IsSameJob old new → search_formula new ≡ search_formula old
 formula_same old new based same =
     ap (λ n. take n new.arena.clauses) same.formula
     ∙ ap (take old.arena.base) same.clauses

@@ -22,18 +22,18 @@ use Rattle.prefix_jobs.proofs.Joined.{give_fits_prefix}
 use Rattle.chrono_trail.specs.declared.item.Kind.{Kind}
 use Rattle.chrono_trail.specs.declared.item.Kind.TheVariants.{Assumed, Decided, Flipped, Turned, Implied}
 use Rattle.chrono_trail.specs.declared.item.Item.{Item}
-use Rattle.chrono_trail.specs.Items.{is_decided, decides, IsDecisionAt}
+use Rattle.chrono_trail.specs.Items.{is_decision, decides, IsDecisionAt}
 use Rattle.chrono_trail.specs.Pictures.{pictured, picture_of, kind_of}
 use Rattle.chrono_trail.proofs.Pictures.{picture-append}
 use Rattle.live_engine.specs.declared.search.Search.{Search}
-use Rattle.live_engine.specs.Searching.{formula_of, pictured_trail, count_of, IsSearching}
+use Rattle.live_engine.specs.Searching.{search_formula, pictured_trail, count_of, IsSearching}
 use Rattle.live_engine.specs.Gives.{pictured_before, IsNextShown, IsKeptPlace, leaves_gone, KeepsWithin, HandsOut}
 use Rattle.live_engine.proofs.Grounds.{same_stands, ground_with}
 use Rattle.live_engine.proofs.Moves.{level_bound}
 
 -- ---- the decision of a level in the picture
 
-decided_kind : (k : Kind) → is_decided k ≡ true → k ≡ Decided
+decided_kind : (k : Kind) → is_decision k ≡ true → k ≡ Decided
 decided_kind Assumed h = cc
 decided_kind Decided h = refl
 decided_kind Flipped h = cc
@@ -51,7 +51,7 @@ pub stands_at : (s : Search) (k place : ℕ) (none d : Item) → IsDecisionAt k 
 stands_at s k place none d at is =
     let items = s.trail.items in
     let f = s.arena.clauses in
-    let (deciding, same) = and_parts (is_decided d.kind) (nat_eq d.level k) (subst (λ i. decides k i ≡ true) (sym is) (at.opens none)) in
+    let (deciding, same) = and_parts (is_decision d.kind) (nat_eq d.level k) (subst (λ i. decides k i ≡ true) (sym is) (at.opens none)) in
     let whole : items ≡ take place items ++ d ∷ drop (suc place) items =
     sym (take-append-drop place items) ∙ ap (λ xs. take place items ++ xs) (drop-cons items place none at.inside ∙ ap (λ i. i ∷ drop (suc place) items) (sym is)) in
     record {
@@ -67,7 +67,7 @@ module _ (s : Search) (h : IsSearching s) where
   shown = is_among s.shown.items
 
   abbrev f : List (List ℤ)
-  f = formula_of s
+  f = search_formula s
 
   pub based : s.base ≤ s.trail.level
   based = let region = h.working.running.region.based in let same = h.current in omega arith
@@ -150,19 +150,19 @@ module _ (s : Search) (h : IsSearching s) where
     named : All (λ v. 0 < v) s.shown.items
     named = All-weaker (λ v. (0 < v) × (v ≤ s.variables)) (λ v. 0 < v) (λ v k. k.0) s.shown.items h.ground.shown.named
 
-    gives : GivesCubes (formula_of s) s.shown.items (length s.shown.items) s.base (count_of s) s.prefix (pictured_trail s) s.found.items s.leaves given kept (leaves_gone s)
-    gives = subst (λ t. GivesCubes (formula_of s) s.shown.items (length s.shown.items) s.base (count_of s) s.prefix (pictured_trail s) s.found.items s.leaves given (front_cube t s.shown.items) (leaves_gone s)) (sym stops.root)
-        (subst (λ t. GivesCubes (formula_of s) s.shown.items (length s.shown.items) s.base (count_of s) s.prefix t s.found.items s.leaves given (front_cube (root (suc s.base) t) s.shown.items) (next_count (is_among s.shown.items) (suc s.base) (count_of s) s.leaves t)) (sym at.parts)
-        (give_keeps_working (formula_of s) s.shown.items (length s.shown.items) s.base (count_of s) s.prefix at.newer d (pictured_before s place) s.found.items s.leaves
+    gives : GivesCubes (search_formula s) s.shown.items (length s.shown.items) s.base (count_of s) s.prefix (pictured_trail s) s.found.items s.leaves given kept (leaves_gone s)
+    gives = subst (λ t. GivesCubes (search_formula s) s.shown.items (length s.shown.items) s.base (count_of s) s.prefix (pictured_trail s) s.found.items s.leaves given (front_cube t s.shown.items) (leaves_gone s)) (sym stops.root)
+        (subst (λ t. GivesCubes (search_formula s) s.shown.items (length s.shown.items) s.base (count_of s) s.prefix t s.found.items s.leaves given (front_cube (root (suc s.base) t) s.shown.items) (next_count (is_among s.shown.items) (suc s.base) (count_of s) s.leaves t)) (sym at.parts)
+        (give_keeps_working (search_formula s) s.shown.items (length s.shown.items) s.base (count_of s) s.prefix at.newer d (pictured_before s place) s.found.items s.leaves
         h.ground.shown.rising named
-        (subst (λ t. Working (formula_of s) (is_among s.shown.items) (length s.shown.items) s.base (count_of s) s.prefix t s.found.items s.leaves) at.parts h.working)
+        (subst (λ t. Working (search_formula s) (is_among s.shown.items) (length s.shown.items) s.base (count_of s) s.prefix t s.found.items s.leaves) at.parts h.working)
         (All-weaker (IsCube s.shown.items) (λ c. rises_above 0 c ≡ true) (λ c k. k.rising) s.found.items h.ground.cubes)
         at.decided at.level (next.shows none)))
 
     first : untried_cubes s.shown.items s.base (pictured_trail s) ≡ given ∷ untried_cubes s.shown.items (suc s.base) (pictured_trail s)
     first = subst (λ t. untried_cubes s.shown.items s.base t ≡ given ∷ untried_cubes s.shown.items (suc s.base) t) (sym at.parts)
-        (untried_cubes_first (formula_of s) s.shown.items s.base at.newer d (pictured_before s place)
-        (subst (Steady (formula_of s) (is_among s.shown.items)) at.parts h.working.running.steady) at.decided at.level (next.shows none))
+        (untried_cubes_first (search_formula s) s.shown.items s.base at.newer d (pictured_before s place)
+        (subst (Steady (search_formula s) (is_among s.shown.items)) at.parts h.working.running.steady) at.decided at.level (next.shows none))
 
     -- with the cubes and the counts that the code leaves
     module _ (found : Vec (List ℤ) Global) (counts : Vec ℕ Global) (stays : found.items ≡ filter (λ c. within c kept) s.found.items) (lowered : counts.items ≡ map (λ k. k - leaves_gone s) s.counts.items) where
@@ -176,9 +176,9 @@ module _ (s : Search) (h : IsSearching s) where
             (ap length lowered ∙ length-map s.counts.items (λ k. k - leaves_gone s))
             (let few = h.ground.capped in omega arith)
             (subst (All (IsCube s.shown.items)) (sym stays) (All-filter (λ c. within c kept) (IsCube s.shown.items) s.found.items h.ground.cubes));
-        working = working_recount (formula_of s) (is_among s.shown.items) (length s.shown.items) (suc s.base) (λ k. count_of s k - leaves_gone s) (count_of after) kept (pictured_trail s) found.items (s.leaves - leaves_gone s)
+        working = working_recount (search_formula s) (is_among s.shown.items) (length s.shown.items) (suc s.base) (λ k. count_of s k - leaves_gone s) (count_of after) kept (pictured_trail s) found.items (s.leaves - leaves_gone s)
             (λ k. ap (λ xs. get_or xs k 0) lowered ∙ at_map (λ j. j - leaves_gone s) s.counts.items k (omega arith))
-            (subst (λ xs. Working (formula_of s) (is_among s.shown.items) (length s.shown.items) (suc s.base) (λ k. count_of s k - leaves_gone s) kept (pictured_trail s) xs (s.leaves - leaves_gone s)) (sym stays) gives.works);
+            (subst (λ xs. Working (search_formula s) (is_among s.shown.items) (length s.shown.items) (suc s.base) (λ k. count_of s k - leaves_gone s) kept (pictured_trail s) xs (s.leaves - leaves_gone s)) (sym stays) gives.works);
         current = h.current;
         passed = h.passed;
         copied = h.copied;
@@ -191,7 +191,7 @@ module _ (s : Search) (h : IsSearching s) where
         first = first;
         few = gives.few;
         outcome = refl;
-        fits = give_fits_prefix (formula_of s) s.shown.items s.base (count_of s) s.prefix (pictured_trail s) s.found.items s.leaves given kept (leaves_gone s) h.ground.shown.rising h.ground.prefix h.ground.cubes gives;
+        fits = give_fits_prefix (search_formula s) s.shown.items s.base (count_of s) s.prefix (pictured_trail s) s.found.items s.leaves given kept (leaves_gone s) h.ground.shown.rising h.ground.prefix h.ground.cubes gives;
       }
 
     pub hands_out : (new : Search) (prefix : List ℤ) (gone : ℕ) (cubes rest : List (List ℤ)) → prefix ≡ kept → gone ≡ leaves_gone s → KeepsWithin s new prefix gone →

@@ -14,7 +14,7 @@ use Rattle.search_job.specs.Working.{Working}
 use Rattle.search_job.proofs.Imply.{imply_keeps_working}
 use Rattle.search_job.proofs.Leaf.{shut_undecided}
 use Rattle.chrono_trail.specs.declared.item.Item.{Item}
-use Rattle.chrono_trail.specs.Items.{upto}
+use Rattle.chrono_trail.specs.Items.{is_upto}
 use Rattle.chrono_trail.specs.Pictures.{pictured, picture_of, kind_of}
 use Rattle.chrono_trail.proofs.Clauses.{low_rest}
 use Rattle.chrono_trail.proofs.Pictures.{picture-push, all-picture, is_assigned-picture}
@@ -25,7 +25,7 @@ use Rattle.live_engine.proofs.Looks.{steady_distinct}
 
 -- the items of a steady trail are at most of its level
 pub steady_low : (f clauses : List (List ℤ)) (shown : ℕ → Bool) (k : ℕ) (items : List Item) → Steady f shown (picture_of clauses items) →
-    picture.depth (picture_of clauses items) ≤ k → list_all (upto k) items ≡ true
+    picture.depth (picture_of clauses items) ≤ k → list_all (is_upto k) items ≡ true
 steady_low f clauses shown k items s deep =
     sym (all-picture clauses (picture.upto k) items) ∙ levels_within f shown k (picture_of clauses items) s deep
 

@@ -11,11 +11,11 @@ use Rattle.clause_arena.specs.Once.{once}
 use Rattle.live_engine.specs.declared.search.Search.{Search}
 use Rattle.live_engine.specs.declared.search.Phase.{Phase}
 use Rattle.live_engine.specs.declared.search.Phase.TheVariants.{Idle, Running, Over}
-use Rattle.live_engine.specs.Searching.{formula_of, IsGround}
+use Rattle.live_engine.specs.Searching.{search_formula, IsGround}
 use Rattle.live_engine.specs.Starts.{IsOf}
 use Rattle.live_engine.specs.Imports.{Imports, clauses_with}
 use Rattle.live_engine.specs.Sending.{Skips, SendsNext}
-use Rattle.live_engine.specs.Engines.{IsEngine, IsIdle, IsInPhase, view_of, unsent_of}
+use Rattle.live_engine.specs.Engines.{IsEngine, IsIdle, IsInPhase, engine_view, unsent_of}
 use Rattle.live_engine.specs.Lemmas.{HasImported, TakesFresh}
 use Rattle.live_engine.proofs.Sent.{follows_once, skipped, phase_sent}
 
@@ -34,20 +34,20 @@ module _ (subject : Subject) (s : Search) (of : IsOf subject s) (idle : IsIdle s
   all_skipped : new.arena.base + after.sent ≡ length new.arena.clauses
   all_skipped = ap (λ (a : Clauses). a.base + after.sent) (sym same_arena) ∙ skips.all ∙ ap (λ (a : Clauses). length a.clauses) same_arena
 
-  pub has_imported : HasImported (view_of subject s Idle) (view_of subject after Idle) c refuted
+  pub has_imported : HasImported (engine_view subject s Idle) (engine_view subject after Idle) c refuted
   has_imported = record {
     tells = imports.tells;
     follows = λ told. follows_once subject.formula.clauses c (subst (λ f. Follows f c) of.formula (imports.follows told));
-    keeps = subst (λ (x : Search). view_of subject x Idle ≡ record (view_of subject s Idle) {
+    keeps = subst (λ (x : Search). engine_view subject x Idle ≡ record (engine_view subject s Idle) {
       clauses = clauses_with (record { clauses = s.arena.clauses; base = length subject.formula.clauses }) c refuted;
       unsent = [];
     }) (sym is_after)
-        (ap₂ (λ cs us. record (view_of subject s Idle) { clauses = cs; unsent = us })
+        (ap₂ (λ cs us. record (engine_view subject s Idle) { clauses = cs; unsent = us })
         (imports.clauses ∙ ap (λ b. clauses_with (record { clauses = s.arena.clauses; base = b }) c refuted) is_base)
         (skipped (record s { arena = new.arena; propagator = new.propagator; trail = new.trail; sent = after.sent }) all_skipped));
   }
 
-  formula_kept : formula_of new ≡ formula_of s
+  formula_kept : search_formula new ≡ search_formula s
   formula_kept = ap₂ take imports.base imports.clauses
       ∙ cond_both (refuted && (not (has_pair c) && has_room s.arena (length (once c)))) (s.arena.clauses ++ once c ∷ []) s.arena.clauses
       (λ xs. take s.arena.base xs ≡ take s.arena.base s.arena.clauses)
@@ -70,8 +70,8 @@ module _ (subject : Subject) (s : Search) (of : IsOf subject s) (idle : IsIdle s
 
 -- a call without memory leaves what callers see
 module _ (subject : Subject) (s : Search) (of : IsOf subject s) (idle : IsIdle s) (new : Search) (rest : new ≡ record s { propagator = new.propagator; trail = new.trail }) where
-  pub same_view : view_of subject new Idle ≡ view_of subject s Idle
-  same_view = ap (λ (x : Search). view_of subject x Idle) rest
+  pub same_view : engine_view subject new Idle ≡ engine_view subject s Idle
+  same_view = ap (λ (x : Search). engine_view subject x Idle) rest
 
   pub same_engine : s.arena.base + s.sent ≤ length s.arena.clauses → IsGround new → IsEngine subject new Idle
   same_engine within ground = record {
@@ -96,15 +96,15 @@ started_engine subject begun new phase of state skips = subst (λ (x : Search). 
 -- ---- a lemma is sent
 
 module _ (subject : Subject) (s new : Search) (phase : Phase) where
-  pub takes_fresh : (o : Option Lemma) → SendsNext s new o → TakesFresh (view_of subject s phase) (view_of subject new phase) o
-  takes_fresh None h = (h.0, ap (λ (x : Search). view_of subject x phase) h.1)
+  pub takes_fresh : (o : Option Lemma) → SendsNext s new o → TakesFresh (engine_view subject s phase) (engine_view subject new phase) o
+  takes_fresh None h = (h.0, ap (λ (x : Search). engine_view subject x phase) h.1)
   takes_fresh (Some lemma) h = record {
     short = h.short;
     first = h.first;
-    rest = subst (λ (x : Search). view_of subject x phase ≡ record (view_of subject s phase) { unsent = unsent_of x }) (sym h.rest) (by_phase phase);
+    rest = subst (λ (x : Search). engine_view subject x phase ≡ record (engine_view subject s phase) { unsent = unsent_of x }) (sym h.rest) (by_phase phase);
   }
     where
-      by_phase : (p : Phase) → view_of subject (record s { sent = new.sent }) p ≡ record (view_of subject s p) { unsent = unsent_of (record s { sent = new.sent }) }
+      by_phase : (p : Phase) → engine_view subject (record s { sent = new.sent }) p ≡ record (engine_view subject s p) { unsent = unsent_of (record s { sent = new.sent }) }
       by_phase Idle = refl
       by_phase Running = refl
       by_phase Over = refl

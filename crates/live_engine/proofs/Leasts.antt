@@ -16,7 +16,7 @@ use Rattle.chrono_trail.specs.Clauses.{is_false_clause}
 use Rattle.implicant_shrink.specs.Levels.{marked}
 use Rattle.implicant_shrink.specs.Shrinking.{is_enough, IsLeastFrom}
 use Rattle.live_engine.specs.declared.search.Search.{Search}
-use Rattle.live_engine.specs.Searching.{formula_of, pictured_trail, IsGround, IsSearching}
+use Rattle.live_engine.specs.Searching.{search_formula, pictured_trail, IsGround, IsSearching}
 use Rattle.live_engine.specs.Steps.{IsLeastEnough}
 use Rattle.live_engine.proofs.Prefixes.{among_named}
 
@@ -56,9 +56,9 @@ table_same s g v = elim (cases_le v s.variables) [
 ]
 
 pub least_told : (s : Search) → IsGround s → (level : ℕ) →
-    IsLeastFrom s.base (marked s.is_shown.items) (pictured_trail s) (formula_of s) level → IsLeastEnough s level
+    IsLeastFrom s.base (marked s.is_shown.items) (pictured_trail s) (search_formula s) level → IsLeastEnough s level
 least_told s g level least m =
-    ap (λ b. nat_le s.base m && b) (sym (enough_same (marked s.is_shown.items) (is_among s.shown.items) (table_same s g) m (pictured_trail s) (formula_of s)))
+    ap (λ b. nat_le s.base m && b) (sym (enough_same (marked s.is_shown.items) (is_among s.shown.items) (table_same s g) m (pictured_trail s) (search_formula s)))
     ∙ least m
 
 -- ---- what a least level gives
@@ -67,24 +67,24 @@ module _ (s : Search) (level : ℕ) (least : IsLeastEnough s level) where
   abbrev shown : ℕ → Bool
   shown = is_among s.shown.items
 
-  here : (nat_le s.base level && is_enough shown level (pictured_trail s) (formula_of s)) ≡ true
+  here : (nat_le s.base level && is_enough shown level (pictured_trail s) (search_formula s)) ≡ true
   here = least level ∙ le-leb level level (omega arith)
 
   pub least_based : s.base ≤ level
-  least_based = leb-true s.base level (and_parts (nat_le s.base level) (is_enough shown level (pictured_trail s) (formula_of s)) here).0
+  least_based = leb-true s.base level (and_parts (nat_le s.base level) (is_enough shown level (pictured_trail s) (search_formula s)) here).0
 
-  both : (keeps_flips shown level (pictured_trail s) ≡ true) × (list_all (is_met shown level (pictured_trail s)) (formula_of s) ≡ true)
-  both = and_parts (keeps_flips shown level (pictured_trail s)) (list_all (is_met shown level (pictured_trail s)) (formula_of s))
-      (and_parts (nat_le s.base level) (is_enough shown level (pictured_trail s) (formula_of s)) here).1
+  both : (keeps_flips shown level (pictured_trail s) ≡ true) × (list_all (is_met shown level (pictured_trail s)) (search_formula s) ≡ true)
+  both = and_parts (keeps_flips shown level (pictured_trail s)) (list_all (is_met shown level (pictured_trail s)) (search_formula s))
+      (and_parts (nat_le s.base level) (is_enough shown level (pictured_trail s) (search_formula s)) here).1
 
   pub least_keeps : keeps_flips shown level (pictured_trail s) ≡ true
   least_keeps = both.0
 
-  pub least_met : list_all (is_met shown level (pictured_trail s)) (formula_of s) ≡ true
+  pub least_met : list_all (is_met shown level (pictured_trail s)) (search_formula s) ≡ true
   least_met = both.1
 
   pub least_reached : s.base < level → reaches shown level (pictured_trail s) ≡ true
-  least_reached above = least_reaches_above shown (pictured_trail s) (formula_of s) s.base level above least
+  least_reached above = least_reaches_above shown (pictured_trail s) (search_formula s) s.base level above least
 
   -- it is one of the trail's
   pub least_within : IsSearching s → level ≤ s.trail.level
@@ -96,7 +96,7 @@ module _ (s : Search) (level : ℕ) (least : IsLeastEnough s level) where
         | inr above ↦ absurd (none_both (λ i. picture.seen shown i && nat_eq i.level level) (picture.upto s.trail.level)
             (λ i on low. let same = eqb-true i.level level (and_parts (picture.seen shown i) (nat_eq i.level level) on).1 in
             let le = leb-true i.level s.trail.level low in absurd (omega arith)) (pictured_trail s) (least_reached (omega arith))
-            (levels_within (formula_of s) shown s.trail.level (pictured_trail s) h.working.running.steady (omega arith)))
+            (levels_within (search_formula s) shown s.trail.level (pictured_trail s) h.working.running.steady (omega arith)))
       ]
 
 -- ---- no clause of the formula is false

@@ -10,7 +10,7 @@ use Rattle.search_region.specs.Steady.{Follows}
 use Rattle.clause_arena.specs.Clauses.{Clauses}
 use Rattle.chrono_trail.specs.declared.item.Kind.TheVariants.{Turned}
 use Rattle.chrono_trail.specs.declared.item.Item.{Item}
-use Rattle.chrono_trail.specs.Items.{decides, upto}
+use Rattle.chrono_trail.specs.Items.{decides, is_upto}
 use Rattle.chrono_trail.specs.Trails.{TrailView, IsTrail, seen_back}
 use Rattle.chrono_trail.specs.Clauses.{IsReason, rest_level}
 use Rattle.propagation.specs.Settled.{PropagatorView, IsSettled}
@@ -21,7 +21,7 @@ use Rattle.conflict_analysis.proofs.Reasons.{asserting_is_reason}
 use Rattle.live_engine.specs.declared.search.Search.{Search}
 use Rattle.live_engine.specs.declared.learning.Taught.{Taught}
 use Rattle.live_engine.specs.Values.{AreCopied}
-use Rattle.live_engine.specs.Searching.{formula_of, IsGround}
+use Rattle.live_engine.specs.Searching.{search_formula, IsGround}
 use Rattle.live_engine.specs.Steps.{TakesBack, MayTurn}
 use Rattle.live_engine.specs.Learning.{TurnsAt, Teaches, AssertsBelow, TakesUp, Forgets}
 use Rattle.live_engine.proofs.Looks.{all_tests}
@@ -30,9 +30,9 @@ use Rattle.live_engine.proofs.Others.{IsBack}
 -- ---- what is learnt
 
 -- what follows from the clauses follows from the formula
-pub learnt_follows : (s : Search) → IsGround s → (c : List ℤ) → Follows s.arena.clauses c → Follows (formula_of s) c
+pub learnt_follows : (s : Search) → IsGround s → (c : List ℤ) → Follows s.arena.clauses c → Follows (search_formula s) c
 learnt_follows s g c follows t model =
-    follows t (all_tests (Follows (formula_of s)) (sat_clause t) (λ d h. h t model) s.arena.clauses g.follow)
+    follows t (all_tests (Follows (search_formula s)) (sat_clause t) (λ d h. h t model) s.arena.clauses g.follow)
 
 picked : (b : Bool) (x y : ℤ) → Some x ≡ cond b (Some y) None → x ≡ y
 picked true x y e = cc
@@ -98,8 +98,8 @@ module _ (old : Search) (g : IsGround old) (a mid : Search) (level k : ℕ) (tau
   pub taught_decided : find (decides level) old.trail.items ≡ Some d
   taught_decided = subst (λ (t : TrailView). find (decides level) t.items ≡ Some d) trail takes.decided
 
-  pub taught_items : mid.trail.items ≡ filter (upto (level - 1)) old.trail.items
-  taught_items = takes.items ∙ ap (λ (t : TrailView). filter (upto (level - 1)) t.items) trail
+  pub taught_items : mid.trail.items ≡ filter (is_upto (level - 1)) old.trail.items
+  taught_items = takes.items ∙ ap (λ (t : TrailView). filter (is_upto (level - 1)) t.items) trail
 
   pub taught_variables : mid.trail.variables ≡ old.trail.variables
   taught_variables = takes.variables ∙ ap (λ (t : TrailView). t.variables) trail
@@ -157,7 +157,7 @@ module _ (old : Search) (g : IsGround old) (a mid : Search) (level k : ℕ) (tau
           clauses = ap (λ (x : Clauses). x.clauses) same_arena ∙ clauses;
           base = ap (λ (x : Clauses). x.base) same_arena ∙ base;
           named = All-push (All (IsLiteralOf old.variables)) [] teaches.clause (All-nil (All (IsLiteralOf old.variables))) teaches.named;
-          follow = All-push (Follows (formula_of old)) [] teaches.clause (All-nil (Follows (formula_of old))) teaches.follows;
+          follow = All-push (Follows (search_formula old)) [] teaches.clause (All-nil (Follows (search_formula old))) teaches.follows;
           propagator = up.variables ∙ ap (λ (p : PropagatorView). p.variables) propagator;
           known = subst (λ (x : Clauses). b.propagator.known ≡ length x.clauses) (sym same_arena) (omega arith);
           places = subst (λ (x : Clauses). length x.clauses ≤ b.propagator.places) (sym same_arena) (omega arith);
@@ -188,7 +188,7 @@ module _ (old : Search) (g : IsGround old) (a mid : Search) (level k : ℕ) (tau
           clauses = ap (λ (x : Clauses). x.clauses) same_arena ∙ sym (append-nil old.arena.clauses);
           base = ap (λ (x : Clauses). x.base) same_arena;
           named = All-nil (All (IsLiteralOf old.variables));
-          follow = All-nil (Follows (formula_of old));
+          follow = All-nil (Follows (search_formula old));
           propagator = ap (λ (p : PropagatorView). p.variables) same_propagator;
           known = ap (λ (p : PropagatorView). p.known) same_propagator ∙ g.known ∙ ap (λ (x : Clauses). length x.clauses) (sym same_arena);
           places = subst₂ (λ (x : Clauses) (p : PropagatorView). length x.clauses ≤ p.places) (sym same_arena) (sym same_propagator) g.places;
@@ -203,7 +203,7 @@ module _ (old : Search) (g : IsGround old) (a mid : Search) (level k : ℕ) (tau
 
     -- and it is a reason for the other side of the decision
     pub taught_turns : TakesUp mid b taught.id → (m : ℕ) → TurnsAt old.trail.items k teaches.clause m → k ≡ level →
-        MayTurn b.arena.clauses (filter (upto (level - 1)) old.trail.items) level (record { lit = neg_ℤ d.lit; level = m; kind = Turned taught.id }) (Turned taught.id)
+        MayTurn b.arena.clauses (filter (is_upto (level - 1)) old.trail.items) level (record { lit = neg_ℤ d.lit; level = m; kind = Turned taught.id }) (Turned taught.id)
     taught_turns up m turns same =
         let i : Item = record { lit = neg_ℤ d.lit; level = m; kind = Turned taught.id } in
         let now = ap (λ (s : Search). s.arena.clauses) up.rest ∙ clauses in
@@ -215,8 +215,8 @@ module _ (old : Search) (g : IsGround old) (a mid : Search) (level k : ℕ) (tau
           (omega arith),
           record {
             inside = omega arith;
-            reason = subst (IsReason (filter (upto (level - 1)) old.trail.items) i) (sym here)
-                (subst (λ n. IsReason (filter (upto (n - 1)) old.trail.items) i teaches.clause) same
+            reason = subst (IsReason (filter (is_upto (level - 1)) old.trail.items) i) (sym here)
+                (subst (λ n. IsReason (filter (is_upto (n - 1)) old.trail.items) i teaches.clause) same
                 (turns.reason d i (subst (λ n. find (decides n) old.trail.items ≡ Some d) (sym same) taught_decided) refl refl));
           },
         )

@@ -14,7 +14,7 @@ use Rattle.chrono_trail.specs.declared.item.Kind.TheVariants.{Assumed, Decided, 
 use Rattle.chrono_trail.specs.declared.item.Item.{Item}
 use Rattle.chrono_trail.specs.Pictures.{pictured, kind_of}
 use Rattle.sat_terms.specs.Cubes.{is_among}
-use Rattle.live_engine.specs.Marks.{AreMarkedBy, is_implied, plain_literal}
+use Rattle.live_engine.specs.Marks.{AreMarkedBy, is_propagated, plain_literal}
 
 -- the marks but for the variable k
 abbrev pub AreMarkedBeside : ℕ → ℕ → List (Option ℤ) → List picture.Item → Type 0
@@ -42,7 +42,7 @@ marked n marks trail i k m at room same h = λ v low. elim (cases_eq v k) [
 pub plain_is : (f : List (List ℤ)) (i : Item) → plain_literal i ≡ cond (is_plain (pictured f i)) (Some i.lit) None
 plain_is f i = by_kind i.kind
   where
-    by_kind : (k : Kind) → cond (is_implied k) None (Some i.lit) ≡ cond (is_plain (record { lit = i.lit; level = i.level; kind = kind_of f k })) (Some i.lit) None
+    by_kind : (k : Kind) → cond (is_propagated k) None (Some i.lit) ≡ cond (is_plain (record { lit = i.lit; level = i.level; kind = kind_of f k })) (Some i.lit) None
     by_kind Assumed = refl
     by_kind Decided = refl
     by_kind Flipped = refl

@@ -14,7 +14,7 @@ use Rattle.search_job.proofs.Decide.{decide_keeps_working}
 use Rattle.search_job.proofs.Same.{counts_shown}
 use Rattle.chrono_trail.specs.declared.item.Kind.TheVariants.{Decided}
 use Rattle.chrono_trail.specs.declared.item.Item.{Item}
-use Rattle.chrono_trail.specs.Items.{item_of, is_decided, decisions_from}
+use Rattle.chrono_trail.specs.Items.{item_of, is_decision, decisions_from}
 use Rattle.chrono_trail.specs.Trails.{TrailView, IsTrail}
 use Rattle.chrono_trail.specs.Pictures.{pictured, picture_of}
 use Rattle.chrono_trail.proofs.Decisions.{decisions_count}
@@ -24,7 +24,7 @@ use Rattle.propagation.specs.Settled.{PropagatorView, IsSettled}
 use Rattle.propagation.specs.Steps.{Propagates}
 use Rattle.propagation.proofs.Settled.{settled_push}
 use Rattle.live_engine.specs.declared.search.Search.{Search}
-use Rattle.live_engine.specs.Searching.{formula_of, pictured_trail, left, count_of, IsSearching, IsSameJob, KeepsLeaves, RunsOn}
+use Rattle.live_engine.specs.Searching.{search_formula, pictured_trail, left, count_of, IsSearching, IsSameJob, KeepsLeaves, RunsOn}
 use Rattle.clause_arena.specs.Clauses.{Clauses}
 use Rattle.chrono_trail.specs.Reasons.{AreReasoned}
 use Rattle.chrono_trail.proofs.Reasoned.{needs_none, appending_keeps}
@@ -62,9 +62,9 @@ abbrev pub propagated : Search → PropagatorView → TrailView → Search
 propagated old propagator trail = record old { propagator = propagator; trail = trail }
 
 module _ (old : Search) (h : IsSearching old) (propagator : PropagatorView) (trail : TrailView) (steps : Propagates old.arena.clauses old.trail.items trail.items) where
-  works : WorksOn (formula_of old) old.arena.clauses (is_among old.shown.items) (length old.shown.items) old.base old.variables (count_of old) old.prefix old.found.items old.leaves h.ground.named h.ground.follow old.trail.items trail.items
-  works = subst (WorksOn (formula_of old) old.arena.clauses (is_among old.shown.items) (length old.shown.items) old.base old.variables (count_of old) old.prefix old.found.items old.leaves h.ground.named h.ground.follow old.trail.items) (sym steps.grows)
-      (propagation_works (formula_of old) old.arena.clauses (is_among old.shown.items) (length old.shown.items) old.base old.variables (count_of old) old.prefix old.found.items old.leaves h.ground.named h.ground.follow steps.added old.trail.items steps.implied h.working)
+  works : WorksOn (search_formula old) old.arena.clauses (is_among old.shown.items) (length old.shown.items) old.base old.variables (count_of old) old.prefix old.found.items old.leaves h.ground.named h.ground.follow old.trail.items trail.items
+  works = subst (WorksOn (search_formula old) old.arena.clauses (is_among old.shown.items) (length old.shown.items) old.base old.variables (count_of old) old.prefix old.found.items old.leaves h.ground.named h.ground.follow old.trail.items) (sym steps.grows)
+      (propagation_works (search_formula old) old.arena.clauses (is_among old.shown.items) (length old.shown.items) old.base old.variables (count_of old) old.prefix old.found.items old.leaves h.ground.named h.ground.follow steps.added old.trail.items steps.implied h.working)
 
   pub propagated_searches : IsSettled old.arena.clauses propagator trail → trail.level ≡ old.trail.level → trail.variables ≡ old.trail.variables →
       propagator.variables ≡ old.propagator.variables → propagator.known ≡ old.propagator.known → propagator.places ≡ old.propagator.places →
@@ -108,9 +108,9 @@ module _ (old : Search) (h : IsSearching old) (propagator : PropagatorView) (tra
 
 few_decisions : (n : ℕ) (items : List Item) → length (decisions_from n items) ≤ length items
 few_decisions n [] = omega arith
-few_decisions n (i ∷ later) = by_kind (is_decided i.kind) refl (few_decisions (suc n) later)
+few_decisions n (i ∷ later) = by_kind (is_decision i.kind) refl (few_decisions (suc n) later)
   where
-    by_kind : (b : Bool) → is_decided i.kind ≡ b → length (decisions_from (suc n) later) ≤ length later →
+    by_kind : (b : Bool) → is_decision i.kind ≡ b → length (decisions_from (suc n) later) ≤ length later →
         length (decisions_from n (i ∷ later)) ≤ length (i ∷ later)
     by_kind true e rest = rw e (omega arith)
     by_kind false e rest = rw e (omega arith)
@@ -176,7 +176,7 @@ module _ (old : Search) (h : IsSearching old) (trail : TrailView) (order : Order
   }
     where
       f : List (List ℤ)
-      f = formula_of old
+      f = search_formula old
 
       shown : ℕ → Bool
       shown = is_among old.shown.items

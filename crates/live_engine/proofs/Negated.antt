@@ -31,7 +31,7 @@ use Rattle.propagation.specs.Settled.{PropagatorView, IsSettled}
 use Rattle.propagation.specs.Steps.{Propagates, IsFalseOf, AreAtRest}
 use Rattle.propagation.proofs.Derived.{propagation_derives, conflict_closes, rest_stays_open}
 use Rattle.live_engine.specs.declared.search.Search.{Search}
-use Rattle.live_engine.specs.Searching.{IsGround, formula_of}
+use Rattle.live_engine.specs.Searching.{IsGround, search_formula}
 use Rattle.chrono_trail.specs.Reasons.{AreReasoned}
 use Rattle.live_engine.proofs.Grounds.{ground_with}
 use Rattle.live_engine.specs.Imports.{IsRefuted, Imports, assumed_negation}
@@ -286,8 +286,8 @@ once_follows f c follows t model = once_true_too (once_keeps_truth (c ∷ []) t)
 -- ---- what an import comes to
 
 module _ (old : Search) (ground : IsGround old) (c : List ℤ) (named : All (IsLiteralOf old.variables) c) where
-  pub refuted_clause : IsRefuted old.arena.clauses c → Follows (formula_of old) c
-  refuted_clause refuted = refuted_follows (formula_of old) old.arena.clauses c ground.follow (tests_named old.variables c named) refuted
+  pub refuted_clause : IsRefuted old.arena.clauses c → Follows (search_formula old) c
+  refuted_clause refuted = refuted_follows (search_formula old) old.arena.clauses c ground.follow (tests_named old.variables c named) refuted
 
   module _ (tried : Search) (rest : tried ≡ record old { propagator = tried.propagator; trail = tried.trail }) where
     same_arena : tried.arena ≡ old.arena
@@ -312,8 +312,8 @@ module _ (old : Search) (ground : IsGround old) (c : List ℤ) (named : All (IsL
       pub lemma_distinct : HasDistinctVariables lemma
       lemma_distinct = rw is (once_distinct c plain)
 
-      pub lemma_follows : Follows (formula_of tried) lemma
-      lemma_follows = subst₂ (λ s x. Follows (formula_of s) x) (sym rest) (sym is) (once_follows (formula_of old) c (refuted_clause (inr closes)))
+      pub lemma_follows : Follows (search_formula tried) lemma
+      lemma_follows = subst₂ (λ s x. Follows (search_formula s) x) (sym rest) (sym is) (once_follows (search_formula old) c (refuted_clause (inr closes)))
 
       pub imports_full : has_room tried.arena (length lemma) ≡ false → Imports old tried c true
       imports_full full = record {

@@ -8,7 +8,7 @@ use Rattle.clause_arena.specs.Clauses.{Clauses}
 use Rattle.chrono_trail.specs.declared.item.Kind.{Kind}
 use Rattle.chrono_trail.specs.declared.item.Kind.TheVariants.{Flipped}
 use Rattle.chrono_trail.specs.declared.item.Item.{Item}
-use Rattle.chrono_trail.specs.Items.{decides, upto, item_of, is_decided}
+use Rattle.chrono_trail.specs.Items.{decides, is_upto, item_of, is_decision}
 use Rattle.chrono_trail.specs.Trails.{TrailView, IsTrail}
 use Rattle.chrono_trail.proofs.Splits.{backtracking_frees, decisions_are_within}
 use Rattle.propagation.specs.Settled.{PropagatorView, IsSettled}
@@ -18,13 +18,13 @@ use Rattle.projected_decide.proofs.Moving.{appending_keeps_passed}
 use Rattle.live_engine.specs.declared.search.Search.{Search}
 use Rattle.live_engine.specs.Values.{AreCopied}
 use Rattle.live_engine.proofs.Copies.{copied_more}
-use Rattle.live_engine.specs.Searching.{formula_of, IsGround}
+use Rattle.live_engine.specs.Searching.{search_formula, IsGround}
 use Rattle.live_engine.specs.Steps.{TakesBack, PutsOther, MayTurn, TurnsDecision, FlipsDecision}
 
 -- the levels from this one on are taken back, and lemmas may have joined
 pub record IsBack (old mid : Search) (level : ℕ) (d : Item) : Type 0 where
   pub decided : find (decides level) old.trail.items ≡ Some d
-  pub items : mid.trail.items ≡ filter (upto (level - 1)) old.trail.items
+  pub items : mid.trail.items ≡ filter (is_upto (level - 1)) old.trail.items
   pub current : mid.trail.level ≡ level - 1
   pub variables : mid.trail.variables ≡ old.trail.variables
   pub passed : HasPassed mid.trail.items mid.order
@@ -33,7 +33,7 @@ pub record IsBack (old mid : Search) (level : ℕ) (d : Item) : Type 0 where
   pub clauses : mid.arena.clauses ≡ old.arena.clauses ++ more
   pub base : mid.arena.base ≡ old.arena.base
   pub named : All (All (IsLiteralOf old.variables)) more
-  pub follow : All (Follows (formula_of old)) more
+  pub follow : All (Follows (search_formula old)) more
   pub propagator : mid.propagator.variables ≡ old.propagator.variables
   pub known : mid.propagator.known ≡ length mid.arena.clauses
   pub places : length mid.arena.clauses ≤ mid.propagator.places
@@ -46,13 +46,13 @@ pub back_named : (old : Search) (level : ℕ) (d : Item) → IsGround old → fi
 back_named old level d g decided = decisions_are_within old.trail.variables old.trail.items old.trail.level level d g.stands decided
 
 pub back_free : (old : Search) (items : List Item) (level : ℕ) (d : Item) → IsGround old → 0 < level → find (decides level) old.trail.items ≡ Some d →
-    items ≡ filter (upto (level - 1)) old.trail.items → item_of items (nat_abs d.lit) ≡ None
+    items ≡ filter (is_upto (level - 1)) old.trail.items → item_of items (nat_abs d.lit) ≡ None
 back_free old items level d g some decided is =
     ap (λ xs. item_of xs (nat_abs d.lit)) is ∙ backtracking_frees old.trail.variables old.trail.items old.trail.level level d g.stands some decided
 
 -- the negation of the decision takes its place
 abbrev pub put_turns : (old mid new : Search) (level at : ℕ) (d : Item) (kind : Kind) (shows : Bool) → IsBack old mid level d → PutsOther mid new d at kind shows →
-    MayTurn mid.arena.clauses (filter (upto (level - 1)) old.trail.items) level (record { lit = neg_ℤ d.lit; level = at; kind = kind }) kind → TurnsDecision old new level shows
+    MayTurn mid.arena.clauses (filter (is_upto (level - 1)) old.trail.items) level (record { lit = neg_ℤ d.lit; level = at; kind = kind }) kind → TurnsDecision old new level shows
 put_turns old mid new level at d kind shows back puts may =
     let arena = ap (λ (s : Search). s.arena) puts.rest in
     let propagator = ap (λ (s : Search). s.propagator) puts.rest in
@@ -63,7 +63,7 @@ put_turns old mid new level at d kind shows back puts may =
       item = e;
       decided = back.decided;
       negates = refl;
-      turns = subst (λ (a : Clauses). MayTurn a.clauses (filter (upto (level - 1)) old.trail.items) level e kind) (sym arena) may;
+      turns = subst (λ (a : Clauses). MayTurn a.clauses (filter (is_upto (level - 1)) old.trail.items) level e kind) (sym arena) may;
       items = puts.items ∙ ap (λ xs. xs ++ e ∷ []) back.items;
       current = puts.current ∙ back.current;
       variables = puts.variables ∙ back.variables;
@@ -103,7 +103,7 @@ just_back old mid level d g takes =
       clauses = ap (λ (a : Clauses). a.clauses) arena ∙ sym (append-nil old.arena.clauses);
       base = ap (λ (a : Clauses). a.base) arena;
       named = All-nil (All (IsLiteralOf old.variables));
-      follow = All-nil (Follows (formula_of old));
+      follow = All-nil (Follows (search_formula old));
       propagator = ap (λ (p : PropagatorView). p.variables) propagator;
       known = ap (λ (p : PropagatorView). p.known) propagator ∙ g.known ∙ ap (λ (a : Clauses). length a.clauses) (sym arena);
       places = subst₂ (λ (a : Clauses) (p : PropagatorView). length a.clauses ≤ p.places) (sym arena) (sym propagator) g.places;

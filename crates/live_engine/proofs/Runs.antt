@@ -8,7 +8,7 @@ use Rattle.live_engine.specs.declared.search.Leaf.{Leaf}
 use Rattle.live_engine.specs.declared.search.Step.{Step}
 use Rattle.live_engine.specs.declared.search.Step.TheVariants.{Goes, Last}
 use Rattle.live_engine.specs.Values.{hidden_literals}
-use Rattle.live_engine.specs.Searching.{formula_of, model_of, open_weight, IsSameJob, KeepsLeaves}
+use Rattle.live_engine.specs.Searching.{search_formula, model_of, open_weight, IsSameJob, KeepsLeaves}
 use Rattle.live_engine.specs.Steps.{counted, HasFound, FindsIn, FindsAllSet, ComesTo}
 use Rattle.live_engine.proofs.Grounds.{formula_same}
 use Rattle.live_engine.proofs.Moves.{same_job}
@@ -46,10 +46,10 @@ model_same a b keeps =
 finds_then : (a b c : Search) (leaf : Leaf) → a.arena.base ≤ length a.arena.clauses → KeepsLeaves a b → FindsIn b c leaf → FindsIn a c leaf
 finds_then a b c leaf based keeps found =
     subst (λ f. HasFound f a.variables a.shown.items leaf a.found.items c.found.items (model_of a) (model_of c)) (formula_same a b based keeps.job)
-    (subst (λ n. HasFound (formula_of b) n a.shown.items leaf a.found.items c.found.items (model_of a) (model_of c)) keeps.job.variables
-    (subst (λ (v : Vec ℕ Global). HasFound (formula_of b) b.variables v.items leaf a.found.items c.found.items (model_of a) (model_of c)) keeps.job.shown
-    (subst (λ (v : Vec (List ℤ) Global). HasFound (formula_of b) b.variables b.shown.items leaf v.items c.found.items (model_of a) (model_of c)) keeps.found
-    (subst (λ m. HasFound (formula_of b) b.variables b.shown.items leaf b.found.items c.found.items m (model_of c)) (model_same a b keeps) found))))
+    (subst (λ n. HasFound (search_formula b) n a.shown.items leaf a.found.items c.found.items (model_of a) (model_of c)) keeps.job.variables
+    (subst (λ (v : Vec ℕ Global). HasFound (search_formula b) b.variables v.items leaf a.found.items c.found.items (model_of a) (model_of c)) keeps.job.shown
+    (subst (λ (v : Vec (List ℤ) Global). HasFound (search_formula b) b.variables b.shown.items leaf v.items c.found.items (model_of a) (model_of c)) keeps.found
+    (subst (λ m. HasFound (search_formula b) b.variables b.shown.items leaf b.found.items c.found.items m (model_of c)) (model_same a b keeps) found))))
 
 pub comes_then : (a b c : Search) (step : Step) → a.arena.base ≤ length a.arena.clauses → KeepsLeaves a b → ComesTo b c step → ComesTo a c step
 comes_then a b c (Goes leaf) based keeps comes = record {

@@ -9,9 +9,9 @@ use Rattle.clause_arena.proofs.Meaning.{once_keeps_truth}
 use Rattle.live_engine.specs.declared.search.Search.{Search}
 use Rattle.live_engine.specs.declared.search.Phase.{Phase}
 use Rattle.live_engine.specs.declared.search.Phase.TheVariants.{Idle, Running, Over}
-use Rattle.live_engine.specs.Searching.{formula_of, IsGround, IsSearching, IsSameJob}
+use Rattle.live_engine.specs.Searching.{search_formula, IsGround, IsSearching, IsSameJob}
 use Rattle.live_engine.specs.Starts.{IsOf}
-use Rattle.live_engine.specs.Engines.{IsInPhase, view_of, unsent_of, may_be_sent, Learns}
+use Rattle.live_engine.specs.Engines.{IsInPhase, engine_view, unsent_of, may_be_sent, Learns}
 
 all_after : {X : Type 0} (P : X → Type 0) (xs ys : List X) → All P (xs ++ ys) → All P ys
 all_after P [] ys h = h
@@ -26,11 +26,11 @@ all_follow_once f more h = λ k d inside. follows_once f (get_or more k d) (h k 
 
 -- a move that may add lemmas
 pub learns : (subject : Subject) (old new : Search) (phase after : Phase) → IsOf subject new → IsGround new → IsSameJob old new → old.arena.base + old.sent ≤ length old.arena.clauses →
-    Learns (view_of subject old phase) (view_of subject new after)
+    Learns (engine_view subject old phase) (engine_view subject new after)
 learns subject old new phase after of ground job within = record {
   more = job.more;
   follow = all_follow_once subject.formula.clauses job.more
-      (subst (λ f. All (Follows f) job.more) of.formula (all_after (Follows (formula_of new)) old.arena.clauses job.more (subst (All (Follows (formula_of new))) job.clauses ground.follow)));
+      (subst (λ f. All (Follows f) job.more) of.formula (all_after (Follows (search_formula new)) old.arena.clauses job.more (subst (All (Follows (search_formula new))) job.clauses ground.follow)));
   clauses = job.clauses;
   unsent = ap₂ (λ n cs. filter may_be_sent (drop n cs)) (ap₂ (λ b k. b + k) job.formula job.sent) job.clauses
       ∙ ap (filter may_be_sent) (drop-append-le (old.arena.base + old.sent) old.arena.clauses job.more within)

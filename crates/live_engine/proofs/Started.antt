@@ -22,7 +22,7 @@ use Rattle.implicant_shrink.specs.Shrinking.{ShrinkerView, IsFor}
 use Rattle.propagation.specs.Settled.{PropagatorView, Watches}
 use Rattle.propagation.proofs.Settled.{settled_unseen, settled_clear}
 use Rattle.live_engine.specs.declared.search.Search.{Search}
-use Rattle.live_engine.specs.Searching.{formula_of, count_of, IsGround, TellsShown}
+use Rattle.live_engine.specs.Searching.{search_formula, count_of, IsGround, TellsShown}
 use Rattle.live_engine.specs.Starts.{IsOf, Begins}
 use Rattle.live_engine.proofs.Grounds.{ground_with, ground_valued}
 use Rattle.live_engine.proofs.Prefixes.{assumed_depth}
@@ -149,9 +149,9 @@ begun old trail order q h cube none items reasoned level variables seen stands a
           own = refl;
         })
         (ap (λ (o : OrderView). o.variables) again) (ap (λ (o : OrderView). o.order) again) h.shrinker cube refl (let low : 0 ≤ 2 ^ 62 = omega arith in low) h.cubes) old.values old.has_model 0 refl;
-    working = subst (λ xs. Working (formula_of old) (is_among old.shown.items) (length old.shown.items) 0 (count_of old) q (picture_of old.arena.clauses trail.items) xs 0) (sym none)
-        (subst (λ t. Working (formula_of old) (is_among old.shown.items) (length old.shown.items) 0 (count_of old) q t [] 0) (sym (items old.arena.clauses))
-        (begin_works (formula_of old) (is_among old.shown.items) (length old.shown.items) (count_of old) q cube.rising cube.over));
+    working = subst (λ xs. Working (search_formula old) (is_among old.shown.items) (length old.shown.items) 0 (count_of old) q (picture_of old.arena.clauses trail.items) xs 0) (sym none)
+        (subst (λ t. Working (search_formula old) (is_among old.shown.items) (length old.shown.items) 0 (count_of old) q t [] 0) (sym (items old.arena.clauses))
+        (begin_works (search_formula old) (is_among old.shown.items) (length old.shown.items) (count_of old) q cube.rising cube.over));
     current = level ∙ sym (ap picture.depth (items old.arena.clauses) ∙ assumed_depth q []);
     passed = rw again refl;
     copied = record { within = omega arith; same = refl };

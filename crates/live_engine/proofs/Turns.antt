@@ -30,8 +30,8 @@ use Rattle.search_job.proofs.Model.{model_keeps_working, model_ends_working}
 use Rattle.chrono_trail.specs.declared.item.Kind.{Kind}
 use Rattle.chrono_trail.specs.declared.item.Kind.TheVariants.{Assumed, Decided, Flipped, Turned, Implied}
 use Rattle.chrono_trail.specs.declared.item.Item.{Item}
-use Rattle.chrono_trail.specs.Items.{item_of, is_within, upto, decides, are_inside, are_distinct, reason_id}
-use Rattle.chrono_trail.specs.Clauses.{is_false, false_by, is_false_clause, level_or_zero, rest_level}
+use Rattle.chrono_trail.specs.Items.{item_of, is_within, is_upto, decides, are_inside, are_distinct, reason_id}
+use Rattle.chrono_trail.specs.Clauses.{is_false, false_upto, is_false_clause, level_or_zero, rest_level}
 use Rattle.chrono_trail.specs.Trails.{TrailView, IsTrail}
 use Rattle.chrono_trail.specs.Reasons.{HasReason, IsReasonAt, AreReasoned}
 use Rattle.chrono_trail.specs.Pictures.{pictured, picture_of, kind_of, Splits}
@@ -44,7 +44,7 @@ use Rattle.projected_decide.specs.Orders.{OrderView}
 use Rattle.implicant_shrink.specs.Shrinking.{ShrinkerView, IsFor}
 use Rattle.live_engine.specs.declared.search.Search.{Search}
 use Rattle.live_engine.specs.declared.search.Leaf.TheVariants.{Found, Dead}
-use Rattle.live_engine.specs.Searching.{formula_of, pictured_trail, left, open_weight, count_of, IsGround, IsSearching, IsSameJob, RunsOn}
+use Rattle.live_engine.specs.Searching.{search_formula, pictured_trail, left, open_weight, count_of, IsGround, IsSearching, IsSameJob, RunsOn}
 use Rattle.live_engine.specs.Steps.{counted, FindsCube, MayTurn, TurnsDecision, FlipsDecision, ComesToLeaf, ComesToLast, IsLeastEnough, cube_at_level}
 use Rattle.live_engine.proofs.Looks.{all_tests, steady_distinct}
 use Rattle.implicant_shrink.specs.Levels.{marked}
@@ -86,7 +86,7 @@ record IsOther (f : List (List ℤ)) (kind : Kind) (e : picture.Item) (newer : L
 
 module _ (old : Search) (h : IsSearching old) (was : ShrinkerView) (had : Vec (List ℤ) Global) (counted : ℕ) (said : Vec Bool Global) (told : Bool) (count : ℕ) (after : Search) (level : ℕ) (shows : Bool) (turns : TurnsDecision (record old { shrinker = was; found = had; leaves = counted; values = said; has_model = told; copied = count }) after level shows) where
   abbrev f : List (List ℤ)
-  f = formula_of old
+  f = search_formula old
 
   abbrev shown : ℕ → Bool
   shown = is_among old.shown.items
@@ -95,7 +95,7 @@ module _ (old : Search) (h : IsSearching old) (was : ShrinkerView) (had : Vec (L
   n = length old.shown.items
 
   abbrev stays : List Item
-  stays = filter (upto (level - 1)) old.trail.items
+  stays = filter (is_upto (level - 1)) old.trail.items
 
   splits : Splits old.arena.clauses old.trail.items level turns.decision
   splits = decisions_split old.arena.clauses old.trail.items level turns.decision turns.decided
@@ -264,7 +264,7 @@ module _ (old : Search) (h : IsSearching old) (was : ShrinkerView) (had : Vec (L
 
 -- a false clause is so by items of at most the level of its literals
 false_at : (items : List Item) (v k : ℕ) (c : List ℤ) → are_distinct items ≡ true → All (IsLiteralOf v) c → is_false_clause items c ≡ true →
-    rest_level items (pos 0) c ≤ k → list_all (false_by k items) c ≡ true
+    rest_level items (pos 0) c ≤ k → list_all (false_upto k items) c ≡ true
 false_at items v k [] d named wrong low = refl
 false_at items v k (m ∷ c) d named wrong low =
     let (now, rest) = and_parts (is_false items m) (is_false_clause items c) wrong in
@@ -272,15 +272,15 @@ false_at items v k (m ∷ c) d named wrong low =
     let other : int_eq m (pos 0) ≡ false = int_eq-other m (pos 0) (λ same. (let zero : nat_abs m ≡ 0 = ap nat_abs same in let above = lit.0 in absurd (omega arith))) in
     let first : cond (int_eq m (pos 0)) 0 (level_or_zero (item_of items (nat_abs m))) ≤ k = omega arith in
     let here : level_or_zero (item_of items (nat_abs m)) ≤ k = rw other at first in
-    and_from (false_by k items m) (list_all (false_by k items) c) (false_low items m k d now here)
+    and_from (false_upto k items m) (list_all (false_upto k items) c) (false_low items m k d now here)
     (false_at items v k c d (All-tail (IsLiteralOf v) m c named) rest (omega arith))
 
 module _ (old : Search) (h : IsSearching old) (id : ℕ) (wrong : IsFalseOf old.arena.clauses old.trail.items id) (level : ℕ) (is_level : level ≡ rest_level old.trail.items (pos 0) (get_or old.arena.clauses id [])) where
   false_now : is_false_upto level (pictured_trail old) (get_or old.arena.clauses id []) ≡ true
-  false_now = all_weaker (false_by level old.trail.items) (picture.false_by level (pictured_trail old))
+  false_now = all_weaker (false_upto level old.trail.items) (picture.false_by level (pictured_trail old))
       (λ l g. false_by-picture old.arena.clauses level old.trail.items l ∙ g) (get_or old.arena.clauses id [])
       (false_at old.trail.items old.variables level (get_or old.arena.clauses id [])
-      (steady_distinct (formula_of old) old.arena.clauses (is_among old.shown.items) old.trail.items h.working.running.steady)
+      (steady_distinct (search_formula old) old.arena.clauses (is_among old.shown.items) old.trail.items h.working.running.steady)
       (h.ground.named id [] wrong.0) wrong.1 (omega arith))
 
   pub conflict_last : (leaves : ℕ) → leaves ≡ counted old.leaves → level ≤ old.base → ComesToLast old (record old { leaves = leaves }) Dead
@@ -290,7 +290,7 @@ module _ (old : Search) (h : IsSearching old) (id : ℕ) (wrong : IsFalseOf old.
         closed = record {
           ground = ground_with old h.ground old.arena old.propagator old.trail old.order old.shrinker old.prefix old.base old.counts leaves old.found
               (same_stands old h.ground) refl refl h.ground.shrinker h.ground.prefix refl (rw more bounds.2) h.ground.cubes;
-          fits = conflict_ends_working (formula_of old) (is_among old.shown.items) (length old.shown.items) old.base (count_of old) old.prefix level
+          fits = conflict_ends_working (search_formula old) (is_among old.shown.items) (length old.shown.items) old.base (count_of old) old.prefix level
               (get_or old.arena.clauses id []) (pictured_trail old) old.found.items old.leaves leaves h.working low (h.ground.follow id [] wrong.0) false_now
               (rw more bounds.1);
         };
@@ -312,15 +312,15 @@ module _ (old : Search) (h : IsSearching old) (id : ℕ) (wrong : IsFalseOf old.
         let parts = parts old h old.shrinker old.found old.leaves old.values old.has_model old.copied after level shows turns in
         let on = on old h old.shrinker old.found old.leaves old.values old.has_model old.copied after level shows turns in
         let decided = decided old h old.shrinker old.found old.leaves old.values old.has_model old.copied after level shows turns in
-        let was = subst (λ t. Working (formula_of old) (is_among old.shown.items) (length old.shown.items) old.base (count_of old) old.prefix t old.found.items old.leaves) parts h.working in
+        let was = subst (λ t. Working (search_formula old) (is_among old.shown.items) (length old.shown.items) old.base (count_of old) old.prefix t old.found.items old.leaves) parts h.working in
         let few = subst (λ b. leaves ≤ old.leaves + cond b 1 0) turns.told most in
         elim o.side [
-          | inl flips ↦ subst (λ x. Working (formula_of old) (is_among old.shown.items) (length old.shown.items) old.base (count_of old) old.prefix (picture.turn_with x newer d older) old.found.items leaves) (sym flips.1)
-              (conflict_keeps_working (formula_of old) (is_among old.shown.items) (length old.shown.items) old.base (count_of old) old.prefix newer d older old.found.items
+          | inl flips ↦ subst (λ x. Working (search_formula old) (is_among old.shown.items) (length old.shown.items) old.base (count_of old) old.prefix (picture.turn_with x newer d older) old.found.items leaves) (sym flips.1)
+              (conflict_keeps_working (search_formula old) (is_among old.shown.items) (length old.shown.items) old.base (count_of old) old.prefix newer d older old.found.items
               old.leaves leaves (get_or old.arena.clauses id []) was decided (rw on above) (h.ground.follow id [] wrong.0)
               (subst₂ (λ k t. is_false_upto k t (get_or old.arena.clauses id []) ≡ true) (sym on) parts false_now) later few)
-          | inr by ↦ subst (λ x. Working (formula_of old) (is_among old.shown.items) (length old.shown.items) old.base (count_of old) old.prefix (picture.turn_with x newer d older) old.found.items leaves) (sym by.is)
-              (turn_keeps_working (formula_of old) (is_among old.shown.items) (length old.shown.items) old.base (count_of old) old.prefix newer d older old.found.items
+          | inr by ↦ subst (λ x. Working (search_formula old) (is_among old.shown.items) (length old.shown.items) old.base (count_of old) old.prefix (picture.turn_with x newer d older) old.found.items leaves) (sym by.is)
+              (turn_keeps_working (search_formula old) (is_among old.shown.items) (length old.shown.items) old.base (count_of old) old.prefix newer d older old.found.items
               old.leaves leaves by.m by.c was decided (rw on above) by.low by.follows by.reason later few)
         ]
 
@@ -375,15 +375,15 @@ named_clauses n =
     all_tests (All (IsLiteralOf n)) (list_all (λ l. nat_lt 0 (nat_abs l)))
     (all_tests (IsLiteralOf n) (λ l. nat_lt 0 (nat_abs l)) (λ l k. lt-ltb 0 (nat_abs l) k.0))
 
-module _ (old : Search) (h : IsSearching old) (level : ℕ) (least : IsLeastEnough old level) (shrinker : ShrinkerView) (for_it : IsFor (formula_of old) shrinker) (values : Vec Bool Global) (told : Bool) (count : ℕ) (valued : length values.items ≡ length old.values.items) (tells : told ≡ true) (copies : list_all (has_value (marked values.items)) old.trail.items ≡ true) where
+module _ (old : Search) (h : IsSearching old) (level : ℕ) (least : IsLeastEnough old level) (shrinker : ShrinkerView) (for_it : IsFor (search_formula old) shrinker) (values : Vec Bool Global) (told : Bool) (count : ℕ) (valued : length values.items ≡ length old.values.items) (tells : told ≡ true) (copies : list_all (has_value (marked values.items)) old.trail.items ≡ true) where
   abbrev seen : ℕ → Bool
   seen = is_among old.shown.items
 
-  named : are_named (formula_of old) ≡ true
+  named : are_named (search_formula old) ≡ true
   named = all_take (list_all (λ l. nat_lt 0 (nat_abs l))) old.arena.base old.arena.clauses (named_clauses old.variables old.arena.clauses h.ground.named)
 
   cube : CubeOf seen level (pictured_trail old) (cube_at_level old level)
-  cube = read_cube_of (formula_of old) old.shown.items level (pictured_trail old) h.working.running.steady
+  cube = read_cube_of (search_formula old) old.shown.items level (pictured_trail old) h.working.running.steady
 
   module _ (found : Vec (List ℤ) Global) (more : found.items ≡ old.found.items ++ cube_at_level old level ∷ []) (leaves : ℕ) (number : leaves ≡ counted old.leaves) where
     cubes : All (IsCube old.shown.items) found.items
@@ -403,7 +403,7 @@ module _ (old : Search) (h : IsSearching old) (level : ℕ) (least : IsLeastEnou
         (same_stands old h.ground) refl refl for_it h.ground.prefix refl bounds.2 cubes) values told count valued
 
     -- the cube and the hidden literals of its model
-    finds : FindsCube (formula_of old) old.variables old.shown.items old.found.items found.items (cond told (Some (hidden_literals old.variables old.shown.items (marked values.items))) None)
+    finds : FindsCube (search_formula old) old.variables old.shown.items old.found.items found.items (cond told (Some (hidden_literals old.variables old.shown.items (marked values.items))) None)
     finds = record {
       cube = cube_at_level old level;
       found = more;
@@ -411,7 +411,7 @@ module _ (old : Search) (h : IsSearching old) (level : ℕ) (least : IsLeastEnou
       hidden = ap (λ b. cond b (Some (hidden_literals old.variables old.shown.items (marked values.items))) None) tells;
       implicant = implicant old.arena.clauses old.variables old.shown.items old.trail.items level (marked values.items)
           (subst (λ n. list_all (is_within n) old.trail.items ≡ true) h.ground.trail h.ground.stands.within) h.ground.stands.distinct copies
-          (formula_of old) (least_met old level least);
+          (search_formula old) (least_met old level least);
     }
 
     pub model_last : level ≤ old.base → ComesToLast old with_cube Found
@@ -420,10 +420,10 @@ module _ (old : Search) (h : IsSearching old) (level : ℕ) (least : IsLeastEnou
         record {
           closed = record {
             ground = cube_ground;
-            fits = rw more (model_ends_working (formula_of old) seen (length old.shown.items) old.base (count_of old) old.prefix (cube_at_level old level)
+            fits = rw more (model_ends_working (search_formula old) seen (length old.shown.items) old.base (count_of old) old.prefix (cube_at_level old level)
                 (pictured_trail old) old.found.items old.leaves leaves h.working named
                 (subst (λ k. keeps_flips seen k (pictured_trail old) ≡ true) at (least_keeps old level least))
-                (subst (λ k. list_all (is_met seen k (pictured_trail old)) (formula_of old) ≡ true) at (least_met old level least))
+                (subst (λ k. list_all (is_met seen k (pictured_trail old)) (search_formula old) ≡ true) at (least_met old level least))
                 (subst (λ k. CubeOf seen k (pictured_trail old) (cube_at_level old level)) at cube) bounds.1);
           };
           job = same_job old with_cube refl refl refl refl refl refl;
@@ -442,19 +442,19 @@ module _ (old : Search) (h : IsSearching old) (level : ℕ) (least : IsLeastEnou
         let on = on old h shrinker found leaves values told count after level shows turns in
         let decided = decided old h shrinker found leaves values told count after level shows turns in
         let steady = steady old h shrinker found leaves values told count after level shows turns in
-        let at = flipped_is old h shrinker found leaves values told count after level shows turns flips.flipped (subst (MayTurn after.arena.clauses (filter (upto (level - 1)) old.trail.items) level turns.item) flips.flipped turns.turns) in
+        let at = flipped_is old h shrinker found leaves values told count after level shows turns flips.flipped (subst (MayTurn after.arena.clauses (filter (is_upto (level - 1)) old.trail.items) level turns.item) flips.flipped turns.turns) in
         let reach = least_reached old level least above in
-        let works = subst (λ x. Working (formula_of old) seen (length old.shown.items) old.base (count_of old) old.prefix (picture.turn_with x newer d older) found.items leaves) (sym at)
-        (subst (λ xs. Working (formula_of old) seen (length old.shown.items) old.base (count_of old) old.prefix (picture.turn_over newer d older) xs leaves) (sym more)
-        (model_keeps_working (formula_of old) seen (length old.shown.items) old.base (count_of old) old.prefix newer d older old.found.items old.leaves leaves (cube_at_level old level)
-        (subst (λ t. Working (formula_of old) seen (length old.shown.items) old.base (count_of old) old.prefix t old.found.items old.leaves) parts h.working)
+        let works = subst (λ x. Working (search_formula old) seen (length old.shown.items) old.base (count_of old) old.prefix (picture.turn_with x newer d older) found.items leaves) (sym at)
+        (subst (λ xs. Working (search_formula old) seen (length old.shown.items) old.base (count_of old) old.prefix (picture.turn_over newer d older) xs leaves) (sym more)
+        (model_keeps_working (search_formula old) seen (length old.shown.items) old.base (count_of old) old.prefix newer d older old.found.items old.leaves leaves (cube_at_level old level)
+        (subst (λ t. Working (search_formula old) seen (length old.shown.items) old.base (count_of old) old.prefix t old.found.items old.leaves) parts h.working)
         decided (rw on above) named
         (subst₂ (λ k t. reaches seen k t ≡ true) (sym on) parts reach)
         (subst₂ (λ k t. keeps_flips seen k t ≡ true) (sym on) parts (least_keeps old level least))
-        (subst₂ (λ k t. list_all (is_met seen k t) (formula_of old) ≡ true) (sym on) parts (least_met old level least))
+        (subst₂ (λ k t. list_all (is_met seen k t) (search_formula old) ≡ true) (sym on) parts (least_met old level least))
         (subst₂ (λ k t. CubeOf seen k t (cube_at_level old level)) (sym on) parts cube) bounds.0 bounds.1)) in
         let run = turned_runs old h shrinker found leaves values told count after level shows turns shrinker found leaves for_it above bounds.2 cubes valued works in
-        let shows_it : shows ≡ true = turns.told ∙ reached_shown (formula_of old) seen newer d older steady decided (subst₂ (λ k t. reaches seen k t ≡ true) (sym on) parts reach) in
+        let shows_it : shows ≡ true = turns.told ∙ reached_shown (search_formula old) seen newer d older steady decided (subst₂ (λ k t. reaches seen k t ≡ true) (sym on) parts reach) in
         let weight = subst (λ b. open_weight (turned_to old after shrinker found leaves values told) + cond b 1 0 ≤ open_weight old) shows_it run.weight in
         subst (λ s. ComesToLeaf old s Found) (sym turns.rest) (record {
           searching = run.searching;

@@ -30,7 +30,7 @@ use Rattle.live_engine.specs.declared.search.Leaf.TheVariants.{Found, Dead, Ende
 use Rattle.live_engine.specs.declared.search.Phase.{Phase}
 use Rattle.live_engine.specs.declared.search.Phase.TheVariants.{Idle, Running, Over}
 use Rattle.live_engine.specs.Searching as searching
-use Rattle.live_engine.specs.Searching.{formula_of, pictured_trail, count_of, IsGround, IsSearching, IsClosed, IsSameJob}
+use Rattle.live_engine.specs.Searching.{search_formula, pictured_trail, count_of, IsGround, IsSearching, IsExhausted, IsSameJob}
 use Rattle.live_engine.specs.Starts.{IsOf, Begins}
 use Rattle.std.specs.List.{list_any, list_all}
 use Rattle.std.proofs.lemmas.Bool.{and_from, or_cases, or_left, or_right}
@@ -43,7 +43,7 @@ use Rattle.live_engine.specs.Values.{hidden_literals, IsImplicant}
 use Rattle.live_engine.specs.Searching.{model_of}
 use Rattle.live_engine.proofs.Fronts.{assumed_front, any_among}
 use Rattle.live_engine.specs.Steps.{ComesToLeaf, ComesToLast, HasFound, FindsIn}
-use Rattle.live_engine.specs.Engines.{IsEngine, IsInPhase, job_of, open_weight, view_of, HasStarted, Learns, Leafs, FitsJob}
+use Rattle.live_engine.specs.Engines.{IsEngine, IsInPhase, job_of, open_weight, engine_view, HasStarted, Learns, Leafs, FitsJob}
 use Rattle.live_engine.proofs.Grounds.{ground_with, same_stands, formula_same}
 use Rattle.clause_arena.specs.Clauses.{Clauses}
 use Rattle.live_engine.proofs.Prefixes.{assumed_untried}
@@ -128,35 +128,35 @@ module _ (subject : Subject) (s : Search) (of : IsOf subject s) where
       let small = h.ground.small in
       fits_once subject.formula.clauses subject.shown s.prefix (record { cubes = s.found.items; rest = left_cubes s.shown.items s.base (pictured_trail s); kept = None; leaves = s.leaves })
       (subst₂ (λ f p. FitsPrefix f p s.prefix (record { cubes = s.found.items; rest = left_cubes s.shown.items s.base (pictured_trail s); kept = None; leaves = s.leaves })) of.formula of.shown
-      (expose_fits_prefix (formula_of s) s.shown.items s.prefix s.found.items (left_cubes s.shown.items s.base (pictured_trail s)) s.leaves
+      (expose_fits_prefix (search_formula s) s.shown.items s.prefix s.found.items (left_cubes s.shown.items s.base (pictured_trail s)) s.leaves
       shown.rising h.ground.prefix h.ground.cubes
-      (expose_fits (formula_of s) s.shown.items shown.rising (All-weaker (λ v. (0 < v) × (v ≤ s.variables)) (λ v. 0 < v) (λ v k. k.0) s.shown.items shown.named)
+      (expose_fits (search_formula s) s.shown.items shown.rising (All-weaker (λ v. (0 < v) × (v ≤ s.variables)) (λ v. 0 < v) (λ v k. k.0) s.shown.items shown.named)
       s.base (length s.shown.items) (count_of s) s.prefix (pictured_trail s) s.found.items s.leaves h.working)
       (omega arith)))
 
-  pub fits_closed : IsClosed s → FitsPrefix subject.formula.clauses subject.shown s.prefix
+  pub fits_closed : IsExhausted s → FitsPrefix subject.formula.clauses subject.shown s.prefix
       (record { cubes = s.found.items; rest = []; kept = None; leaves = s.leaves })
   fits_closed h =
       fits_once subject.formula.clauses subject.shown s.prefix (record { cubes = s.found.items; rest = []; kept = None; leaves = s.leaves })
       (subst₂ (λ f p. FitsPrefix f p s.prefix (record { cubes = s.found.items; rest = []; kept = None; leaves = s.leaves })) of.formula of.shown
-      (expose_fits_prefix (formula_of s) s.shown.items s.prefix s.found.items [] s.leaves h.ground.shown.rising h.ground.prefix h.ground.cubes
+      (expose_fits_prefix (search_formula s) s.shown.items s.prefix s.found.items [] s.leaves h.ground.shown.rising h.ground.prefix h.ground.cubes
       (record { over = All-nil (IsCube s.shown.items); fits = h.fits }) (omega arith)))
 
-  pub weighs_view : IsSearching s → open_weight (view_of subject s Running) ≡ searching.open_weight s
+  pub weighs_view : IsSearching s → open_weight (engine_view subject s Running) ≡ searching.open_weight s
   weighs_view h =
       ap (λ p. weights (length p) (left_cubes s.shown.items s.base (pictured_trail s))) (sym of.shown)
-      ∙ sym (left_weights (formula_of s) s.shown.items h.ground.shown.rising
+      ∙ sym (left_weights (search_formula s) s.shown.items h.ground.shown.rising
       (All-weaker (λ v. (0 < v) × (v ≤ s.variables)) (λ v. 0 < v) (λ v k. k.0) s.shown.items h.ground.shown.named)
       s.base (length s.shown.items) (pictured_trail s) h.working.running.steady)
 
   same_some : (x r : List ℤ) → Some x ≡ Some r → x ≡ r
   same_some x r e = cc
 
-  pub job_runs : IsSearching s → FitsJob (view_of subject s Running)
+  pub job_runs : IsSearching s → FitsJob (engine_view subject s Running)
   job_runs h r told = subst (λ x. FitsPrefix subject.formula.clauses subject.shown x (record { cubes = s.found.items; rest = left_cubes s.shown.items s.base (pictured_trail s); kept = None; leaves = s.leaves }))
       (same_some s.prefix r told) (fits_running h)
 
-  pub job_over : IsClosed s → FitsJob (view_of subject s Over)
+  pub job_over : IsExhausted s → FitsJob (engine_view subject s Over)
   job_over h r told = subst (λ x. FitsPrefix subject.formula.clauses subject.shown x (record { cubes = s.found.items; rest = []; kept = None; leaves = s.leaves }))
       (same_some s.prefix r told) (fits_closed h)
 
@@ -201,28 +201,28 @@ module _ (subject : Subject) (s : Search) (of : IsOf subject s) (h : IsSearching
     sent = job.sent;
   }
 
-  goes : (leaf : Leaf) → ComesToLeaf (record s { found = found }) new leaf → open_weight (view_of subject new Running) < open_weight (view_of subject s Running)
+  goes : (leaf : Leaf) → ComesToLeaf (record s { found = found }) new leaf → open_weight (engine_view subject new Running) < open_weight (engine_view subject s Running)
   goes leaf comes =
       let was = weighs_view subject s of h in
       let now = weighs_view subject new (of_leaf comes.job) comes.searching in
       let less = comes.less in
-      let goal_is : open_weight (view_of subject new Running) < open_weight (view_of subject s Running) = omega arith in goal_is
+      let goal_is : open_weight (engine_view subject new Running) < open_weight (engine_view subject s Running) = omega arith in goal_is
 
-  ends : open_weight (view_of subject new Over) < open_weight (view_of subject s Running)
+  ends : open_weight (engine_view subject new Over) < open_weight (engine_view subject s Running)
   ends =
       let n = length subject.shown in
       let both = weights_push n (untried_cubes s.shown.items s.base (pictured_trail s)) (front_cube (pictured_trail s) s.shown.items) in
       let some = weight_some n (front_cube (pictured_trail s) s.shown.items) in
-      let goal_is : open_weight (view_of subject new Over) < open_weight (view_of subject s Running) = omega arith in goal_is
+      let goal_is : open_weight (engine_view subject new Over) < open_weight (engine_view subject s Running) = omega arith in goal_is
 
   -- what was found, over the subject
   finds : (leaf : Leaf) → FindsIn (record s { found = found }) new leaf →
       HasFound subject.formula.clauses subject.formula.variables subject.shown leaf s.found.items new.found.items (model_of s) (model_of new)
   finds leaf h =
-      over leaf (subst₂ (λ n p. HasFound (formula_of s) n p leaf s.found.items new.found.items (model_of s) (model_of new)) of.variables of.shown
-      (subst (λ xs. HasFound (formula_of s) s.variables s.shown.items leaf xs new.found.items (model_of s) (model_of new)) same h))
+      over leaf (subst₂ (λ n p. HasFound (search_formula s) n p leaf s.found.items new.found.items (model_of s) (model_of new)) of.variables of.shown
+      (subst (λ xs. HasFound (search_formula s) s.variables s.shown.items leaf xs new.found.items (model_of s) (model_of new)) same h))
     where
-      over : (l : Leaf) → HasFound (formula_of s) subject.formula.variables subject.shown l s.found.items new.found.items (model_of s) (model_of new) →
+      over : (l : Leaf) → HasFound (search_formula s) subject.formula.variables subject.shown l s.found.items new.found.items (model_of s) (model_of new) →
           HasFound subject.formula.clauses subject.formula.variables subject.shown l s.found.items new.found.items (model_of s) (model_of new)
       over Found k = record {
         cube = k.cube;
@@ -235,27 +235,27 @@ module _ (subject : Subject) (s : Search) (of : IsOf subject s) (h : IsSearching
       over Dead k = k
       over Ended k = k
 
-  pub leaf_goes : (leaf : Leaf) → ComesToLeaf (record s { found = found }) new leaf → Leafs (view_of subject s Running) (view_of subject new Running) leaf
+  pub leaf_goes : (leaf : Leaf) → ComesToLeaf (record s { found = found }) new leaf → Leafs (engine_view subject s Running) (engine_view subject new Running) leaf
   leaf_goes leaf comes = by_leaf leaf (goes leaf comes) (finds leaf comes.found)
     where
-      taught : Learns (view_of subject s Running) (view_of subject new Running)
+      taught : Learns (engine_view subject s Running) (engine_view subject new Running)
       taught = learns subject s new Running Running (of_leaf comes.job) comes.searching.ground (job_from comes.job) within
 
-      by_leaf : (l : Leaf) → open_weight (view_of subject new Running) < open_weight (view_of subject s Running) →
+      by_leaf : (l : Leaf) → open_weight (engine_view subject new Running) < open_weight (engine_view subject s Running) →
           HasFound subject.formula.clauses subject.formula.variables subject.shown l s.found.items new.found.items (model_of s) (model_of new) →
-          Leafs (view_of subject s Running) (view_of subject new Running) l
+          Leafs (engine_view subject s Running) (engine_view subject new Running) l
       by_leaf Found less found = record { some = λ e. cc; subject = refl; job = ap Some comes.job.prefix; found = found; leaves = comes.leaves; less = less; learns = taught }
       by_leaf Dead less found = record { some = λ e. cc; subject = refl; job = ap Some comes.job.prefix; found = found; leaves = comes.leaves; less = less; learns = taught }
       by_leaf Ended less found = absurd found
 
-  pub leaf_last : (leaf : Leaf) → ComesToLast (record s { found = found }) new leaf → Leafs (view_of subject s Running) (view_of subject new Over) leaf
+  pub leaf_last : (leaf : Leaf) → ComesToLast (record s { found = found }) new leaf → Leafs (engine_view subject s Running) (engine_view subject new Over) leaf
   leaf_last leaf comes = by_leaf leaf (finds leaf comes.found)
     where
-      taught : Learns (view_of subject s Running) (view_of subject new Over)
+      taught : Learns (engine_view subject s Running) (engine_view subject new Over)
       taught = learns subject s new Running Over (of_leaf comes.job) comes.closed.ground (job_from comes.job) within
 
       by_leaf : (l : Leaf) → HasFound subject.formula.clauses subject.formula.variables subject.shown l s.found.items new.found.items (model_of s) (model_of new) →
-          Leafs (view_of subject s Running) (view_of subject new Over) l
+          Leafs (engine_view subject s Running) (engine_view subject new Over) l
       by_leaf Found found = record { some = λ e. cc; subject = refl; job = ap Some comes.job.prefix; found = found; leaves = comes.leaves; less = ends; learns = taught }
       by_leaf Dead found = record { some = λ e. cc; subject = refl; job = ap Some comes.job.prefix; found = found; leaves = comes.leaves; less = ends; learns = taught }
       by_leaf Ended found = absurd found
@@ -263,7 +263,7 @@ module _ (subject : Subject) (s : Search) (of : IsOf subject s) (h : IsSearching
 -- ---- a start
 
 pub starts : (subject : Subject) (old new : Search) (q : List ℤ) (sent : ℕ) → IsOf subject old → IsShown old.variables old.shown.items → IsCube old.shown.items q → old.found.items ≡ [] → Begins old new q → new.arena.base + sent ≡ length new.arena.clauses →
-    HasStarted (view_of subject old Idle) (view_of subject (record new { sent = sent }) Running) q
+    HasStarted (engine_view subject old Idle) (engine_view subject (record new { sent = sent }) Running) q
 starts subject old new q sent of shown cube none b all = record {
   subject = refl;
   job = ap Some b.prefix;
@@ -280,7 +280,7 @@ starts subject old new q sent of shown cube none b all = record {
   clauses = ap (λ (a : Clauses). a.clauses) b.arena;
   unsent = skipped (record new { sent = sent }) all;
   fits = job_runs subject (record new { sent = sent })
-      (record { variables = b.variables ∙ of.variables; formula = ap (λ a. formula_of (record old { arena = a })) b.arena ∙ of.formula; shown = ap (λ v. v.items) b.shown ∙ of.shown }) (searching_sent new sent b.searching);
+      (record { variables = b.variables ∙ of.variables; formula = ap (λ a. search_formula (record old { arena = a })) b.arena ∙ of.formula; shown = ap (λ v. v.items) b.shown ∙ of.shown }) (searching_sent new sent b.searching);
 }
 
 -- an engine without a job is idle
@@ -290,7 +290,7 @@ idle_phase s Running e = cc
 idle_phase s Over e = cc
 
 -- what a job found and left open fits its prefix at any time
-pub fits_always : (subject : Subject) (s : Search) (phase : Phase) → IsEngine subject s phase → FitsJob (view_of subject s phase)
+pub fits_always : (subject : Subject) (s : Search) (phase : Phase) → IsEngine subject s phase → FitsJob (engine_view subject s phase)
 fits_always subject s Idle h = λ q e. cc
 fits_always subject s Running h = job_runs subject s h.of h.state
 fits_always subject s Over h = job_over subject s h.of h.state

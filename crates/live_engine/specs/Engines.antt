@@ -14,7 +14,7 @@ use Rattle.live_engine.specs.declared.search.Phase.{Phase}
 use Rattle.live_engine.specs.declared.search.Phase.TheVariants.{Idle, Running, Over}
 use Rattle.live_engine.specs.declared.search.Leaf.{Leaf}
 use Rattle.live_engine.specs.declared.search.Leaf.TheVariants.{Found, Dead, Ended}
-use Rattle.live_engine.specs.Searching.{pictured_trail, model_of, IsGround, IsSearching, IsClosed}
+use Rattle.live_engine.specs.Searching.{pictured_trail, model_of, IsGround, IsSearching, IsExhausted}
 use Rattle.live_engine.specs.Starts.{IsOf}
 use Rattle.live_engine.specs.Steps.{counted, HasFound}
 
@@ -25,9 +25,9 @@ may_be_sent c = nat_le (length c) 8
 -- An engine of a subject: the prefix of its job, if it has one; the cubes that the job found; the
 -- prefixes that it has still to try, the lowest branch first; the one that it is in, which is gone
 -- once nothing is left to try; how many leaves it had; and the hidden literals of the last model of
--- which a cube was found. Its clauses are those of the formula, each literal once, and lemmas behind
--- them. Of the lemmas that may be sent those since the last job began, or a clause was imported, are
--- unsent.
+-- which a cube was found. Its clauses are those of the formula, each literal once, and lemmas
+-- behind them. Of the lemmas that may be sent those since the last job began, or a clause was
+-- imported, are unsent.
 pub record EngineView : Type 0 where
   pub subject : Subject
   pub job : Option (List ℤ)
@@ -76,8 +76,8 @@ here_of s Over = None
 abbrev pub unsent_of : Search → List (List ℤ)
 unsent_of s = filter may_be_sent (drop (s.arena.base + s.sent) s.arena.clauses)
 
-abbrev pub view_of : Subject → Search → Phase → EngineView
-view_of subject s phase = record {
+abbrev pub engine_view : Subject → Search → Phase → EngineView
+engine_view subject s phase = record {
   subject = subject;
   job = job_of s phase;
   found = s.found.items;
@@ -98,7 +98,7 @@ pub record IsIdle (s : Search) : Type 0 where
 abbrev pub IsInPhase : Search → Phase → Type 0
 IsInPhase s Idle = IsIdle s
 IsInPhase s Running = IsSearching s
-IsInPhase s Over = IsClosed s
+IsInPhase s Over = IsExhausted s
 
 pub record IsEngine (subject : Subject) (s : Search) (phase : Phase) : Type 0 where
   pub of : IsOf subject s

@@ -11,7 +11,7 @@ use Rattle.chrono_trail.specs.declared.item.Item.{Item}
 use Rattle.chrono_trail.specs.Items.{IsDecisionAt}
 use Rattle.chrono_trail.specs.Pictures.{picture_of}
 use Rattle.live_engine.specs.declared.search.Search.{Search}
-use Rattle.live_engine.specs.Searching.{formula_of, pictured_trail, count_of, IsSearching}
+use Rattle.live_engine.specs.Searching.{search_formula, pictured_trail, count_of, IsSearching}
 use Rattle.live_engine.specs.Engines.{EngineView, open_weight}
 
 -- The items before a place, as the picture has them.
@@ -65,7 +65,7 @@ pub record HandsOut (old new : Search) (given kept : List ℤ) (o : Outcome) : T
     kept = Some kept;
     leaves = o.leaves;
   }
-  pub fits : FitsPrefix (formula_of old) old.shown.items old.prefix o
+  pub fits : FitsPrefix (search_formula old) old.shown.items old.prefix o
 
 abbrev pub HandsOutOrNot : Search → Search → Option Outcome → Type 0
 HandsOutOrNot old new None =

@@ -10,7 +10,7 @@ use Rattle.chrono_trail.specs.declared.item.Item.{Item}
 use Rattle.live_engine.specs.declared.search.Search.{Search}
 use Rattle.live_engine.specs.declared.importing.Negations.{Negations}
 use Rattle.live_engine.specs.declared.importing.Negations.TheVariants.{Pair, Conflict, Quiet}
-use Rattle.live_engine.specs.Searching.{formula_of}
+use Rattle.live_engine.specs.Searching.{search_formula}
 
 -- The clause holds a pair, or unit propagation from the negations of its literals closes.
 abbrev pub IsRefuted : List (List ℤ) → List ℤ → Type 0
@@ -37,7 +37,7 @@ clauses_with arena c refuted =
 -- follows from the formula.
 pub record Imports (old new : Search) (c : List ℤ) (refuted : Bool) : Type 0 where
   pub tells : MatchBool refuted (IsRefuted old.arena.clauses c) (IsRefuted old.arena.clauses c → ⊥)
-  pub follows : refuted ≡ true → Follows (formula_of old) c
+  pub follows : refuted ≡ true → Follows (search_formula old) c
   pub clauses : new.arena.clauses ≡ clauses_with old.arena c refuted
   pub base : new.arena.base ≡ old.arena.base
   pub rest : new ≡ record old {

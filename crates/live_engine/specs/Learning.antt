@@ -5,24 +5,24 @@ use Rattle.sat_terms.specs.Literals.{IsLiteralOf}
 use Rattle.search_region.specs.Steady.{Follows}
 use Rattle.clause_arena.specs.Clauses.{without_long}
 use Rattle.chrono_trail.specs.declared.item.Item.{Item}
-use Rattle.chrono_trail.specs.Items.{decides, upto}
+use Rattle.chrono_trail.specs.Items.{decides, is_upto}
 use Rattle.chrono_trail.specs.Clauses.{IsReason}
 use Rattle.propagation.specs.Settled.{IsSettled}
 use Rattle.live_engine.specs.declared.search.Search.{Search}
 use Rattle.live_engine.specs.declared.learning.Taught.{Taught}
-use Rattle.live_engine.specs.Searching.{formula_of, IsGround}
+use Rattle.live_engine.specs.Searching.{search_formula, IsGround}
 
 -- Once the levels from k on are taken back, the clause is a reason for the negation of the decision
 -- of level k, on the level m below.
 pub record TurnsAt (items : List Item) (k : ℕ) (c : List ℤ) (m : ℕ) : Type 0 where
   pub below : m < k
   pub reason : (d i : Item) → find (decides k) items ≡ Some d → i.lit ≡ neg_ℤ d.lit → i.level ≡ m →
-      IsReason (filter (upto (k - 1)) items) i c
+      IsReason (filter (is_upto (k - 1)) items) i c
 
 -- A clause that follows from the formula joined the arena. It may turn the decision of level k.
 pub record Teaches (old new : Search) (k : ℕ) (taught : Taught) : Type 0 where
   pub clause : List ℤ
-  pub follows : Follows (formula_of old) clause
+  pub follows : Follows (search_formula old) clause
   pub named : All (IsLiteralOf old.variables) clause
   pub clauses : new.arena.clauses ≡ old.arena.clauses ++ clause ∷ []
   pub base : new.arena.base ≡ old.arena.base
@@ -52,7 +52,9 @@ pub record TakesUp (old new : Search) (id : ℕ) : Type 0 where
 -- The last clause went away again.
 abbrev pub Forgets : Search → Search → ℕ → Type 0
 Forgets old new id =
-    new ≡ record old { arena = record { clauses = take id old.arena.clauses; base = old.arena.base } }
+    new ≡ record old {
+      arena = record { clauses = take id old.arena.clauses; base = old.arena.base };
+    }
 
 abbrev pub TakesUpOrForgets : Search → Search → ℕ → Bool → Type 0
 TakesUpOrForgets old new id kept = MatchBool kept (TakesUp old new id) (Forgets old new id)

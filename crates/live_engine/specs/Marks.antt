@@ -17,13 +17,13 @@ pub record AreMarks (n : ℕ) (marks : List (Option ℤ)) : Type 0 where
   pub trail : List picture.Item
   pub told : AreMarkedBy n marks trail
 
-abbrev pub is_implied : Kind → Bool
-is_implied Assumed = false
-is_implied Decided = false
-is_implied Flipped = false
-is_implied (Turned id) = false
-is_implied (Implied id) = true
+abbrev pub is_propagated : Kind → Bool
+is_propagated Assumed = false
+is_propagated Decided = false
+is_propagated Flipped = false
+is_propagated (Turned id) = false
+is_propagated (Implied id) = true
 
 -- The literal of an item that no clause implied.
 abbrev pub plain_literal : Item → Option ℤ
-plain_literal i = cond (is_implied i.kind) None (Some i.lit)
+plain_literal i = cond (is_propagated i.kind) None (Some i.lit)

@@ -21,8 +21,8 @@ use Rattle.live_engine.specs.declared.search.Search.{Search}
 use Rattle.live_engine.specs.Values.{hidden_literals, AreCopied}
 
 -- The clauses of the formula, each literal once. Behind them stand the lemmas.
-abbrev pub formula_of : Search → List (List ℤ)
-formula_of s = take s.arena.base s.arena.clauses
+abbrev pub search_formula : Search → List (List ℤ)
+search_formula s = take s.arena.base s.arena.clauses
 
 -- The hidden literals of the last model, where there was one.
 abbrev pub model_of : Search → Option (List ℤ)
@@ -63,11 +63,11 @@ pub record IsGround (s : Search) : Type 0 where
   pub table : TellsShown s.variables s.shown.items s.is_shown.items
   pub ordered : s.order.variables ≡ s.variables
   pub order : s.order.order ≡ order_of s.variables s.shown.items
-  pub shrinker : IsFor (formula_of s) s.shrinker
+  pub shrinker : IsFor (search_formula s) s.shrinker
   pub analyser : s.analyser ≡ s.variables
   pub based : s.arena.base ≤ length s.arena.clauses
   pub named : All (All (IsLiteralOf s.variables)) s.arena.clauses
-  pub follow : All (Follows (formula_of s)) s.arena.clauses
+  pub follow : All (Follows (search_formula s)) s.arena.clauses
   pub known : s.propagator.known ≡ length s.arena.clauses
   pub places : length s.arena.clauses ≤ s.propagator.places
   pub settled : IsSettled s.arena.clauses s.propagator s.trail
@@ -81,16 +81,16 @@ pub record IsGround (s : Search) : Type 0 where
 -- The job of the prefix runs.
 pub record IsSearching (s : Search) : Type 0 where
   pub ground : IsGround s
-  pub working : Working (formula_of s) (is_among s.shown.items) (length s.shown.items) s.base
+  pub working : Working (search_formula s) (is_among s.shown.items) (length s.shown.items) s.base
       (count_of s) s.prefix (pictured_trail s) s.found.items s.leaves
   pub current : s.trail.level ≡ picture.depth (pictured_trail s)
   pub passed : HasPassed s.trail.items s.order
   pub copied : AreCopied s.trail.items s.copied s.values.items
 
 -- Its prefix is done: what was found fits it, and nothing is left open.
-pub record IsClosed (s : Search) : Type 0 where
+pub record IsExhausted (s : Search) : Type 0 where
   pub ground : IsGround s
-  pub fits : FitsWeighed (formula_of s) (is_among s.shown.items) (length s.shown.items) s.prefix
+  pub fits : FitsWeighed (search_formula s) (is_among s.shown.items) (length s.shown.items) s.prefix
       s.found.items [] s.leaves
 
 -- The job is the same, over the same formula. Lemmas may have joined behind the clauses.

@@ -4,12 +4,12 @@ use Rattle.sat_terms.specs.declared.subject.Subject.{Subject}
 use Rattle.search_job.specs.Reasons.{assume_all}
 use Rattle.clause_arena.specs.Once.{once}
 use Rattle.live_engine.specs.declared.search.Search.{Search}
-use Rattle.live_engine.specs.Searching.{formula_of, pictured_trail, IsSearching}
+use Rattle.live_engine.specs.Searching.{search_formula, pictured_trail, IsSearching}
 
 -- The search is of this subject: its clauses are those of the formula, each literal once.
 pub record IsOf (subject : Subject) (s : Search) : Type 0 where
   pub variables : s.variables ≡ subject.formula.variables
-  pub formula : formula_of s ≡ map once subject.formula.clauses
+  pub formula : search_formula s ≡ map once subject.formula.clauses
   pub shown : s.shown.items ≡ subject.shown
 
 -- The job of the prefix has begun: its literals are assumed, and nothing else has changed.

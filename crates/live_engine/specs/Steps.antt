@@ -9,7 +9,7 @@ use Rattle.search_region.specs.ReadCube.{read_cube}
 use Rattle.chrono_trail.specs.declared.item.Kind.{Kind}
 use Rattle.chrono_trail.specs.declared.item.Kind.TheVariants.{Assumed, Decided, Flipped, Turned, Implied}
 use Rattle.chrono_trail.specs.declared.item.Item.{Item}
-use Rattle.chrono_trail.specs.Items.{decides, upto}
+use Rattle.chrono_trail.specs.Items.{decides, is_upto}
 use Rattle.chrono_trail.specs.Reasons.{IsReasonAt}
 use Rattle.chrono_trail.specs.Trails.{IsTrail, seen_back}
 use Rattle.propagation.specs.Settled.{IsSettled}
@@ -21,7 +21,7 @@ use Rattle.live_engine.specs.declared.search.Leaf.TheVariants.{Found, Dead, Ende
 use Rattle.live_engine.specs.declared.search.Step.{Step}
 use Rattle.live_engine.specs.declared.search.Step.TheVariants.{Goes, Last}
 use Rattle.live_engine.specs.Values.{hidden_literals, IsImplicant, AreCopied}
-use Rattle.live_engine.specs.Searching.{formula_of, pictured_trail, model_of, open_weight, IsSearching, IsClosed, IsSameJob, RunsOn}
+use Rattle.live_engine.specs.Searching.{search_formula, pictured_trail, model_of, open_weight, IsSearching, IsExhausted, IsSameJob, RunsOn}
 
 -- One leaf more. Their number stands still at 2^62.
 abbrev pub counted : ℕ → ℕ
@@ -44,7 +44,7 @@ DecidesOrIsFull old new more = MatchBool more (RunsOn old new) (FindsAllSet old 
 -- The levels from this one on were taken back, and their variables put back.
 pub record TakesBack (old new : Search) (level : ℕ) (decision : Item) : Type 0 where
   pub decided : find (decides level) old.trail.items ≡ Some decision
-  pub items : new.trail.items ≡ filter (upto (level - 1)) old.trail.items
+  pub items : new.trail.items ≡ filter (is_upto (level - 1)) old.trail.items
   pub current : new.trail.level ≡ level - 1
   pub variables : new.trail.variables ≡ old.trail.variables
   pub seen : new.trail.seen ≡ seen_back (level - 1) old.trail
@@ -55,7 +55,8 @@ pub record TakesBack (old new : Search) (level : ℕ) (decision : Item) : Type 0
   pub rest : new ≡ record old { trail = new.trail; order = new.order; copied = new.copied }
 
 -- The negation of a decision joins the trail on this level. Whether it is shown is told.
-pub record PutsOther (old new : Search) (decision : Item) (level : ℕ) (kind : Kind) (shows : Bool) : Type 0 where
+pub record PutsOther (old new : Search) (decision : Item) (level : ℕ) (kind : Kind)
+    (shows : Bool) : Type 0 where
   pub items : new.trail.items
       ≡ old.trail.items ++ record { lit = neg_ℤ decision.lit; level = level; kind = kind } ∷ []
   pub current : new.trail.level ≡ old.trail.level
@@ -81,8 +82,9 @@ pub record TurnsDecision (old new : Search) (level : ℕ) (shows : Bool) : Type 
   pub item : Item
   pub decided : find (decides level) old.trail.items ≡ Some decision
   pub negates : item.lit ≡ neg_ℤ decision.lit
-  pub turns : MayTurn new.arena.clauses (filter (upto (level - 1)) old.trail.items) level item item.kind
-  pub items : new.trail.items ≡ filter (upto (level - 1)) old.trail.items ++ item ∷ []
+  pub turns : MayTurn new.arena.clauses (filter (is_upto (level - 1)) old.trail.items) level item
+      item.kind
+  pub items : new.trail.items ≡ filter (is_upto (level - 1)) old.trail.items ++ item ∷ []
   pub current : new.trail.level ≡ level - 1
   pub variables : new.trail.variables ≡ old.trail.variables
   pub stands : IsTrail new.trail.variables new.trail.items new.trail.level
@@ -92,7 +94,7 @@ pub record TurnsDecision (old new : Search) (level : ℕ) (shows : Bool) : Type 
   pub clauses : new.arena.clauses ≡ old.arena.clauses ++ more
   pub base : new.arena.base ≡ old.arena.base
   pub named : All (All (IsLiteralOf old.variables)) more
-  pub follow : All (Follows (formula_of old)) more
+  pub follow : All (Follows (search_formula old)) more
   pub propagator : new.propagator.variables ≡ old.propagator.variables
   pub known : new.propagator.known ≡ length new.arena.clauses
   pub places : length new.arena.clauses ≤ new.propagator.places
@@ -133,7 +135,7 @@ HasFound f n p Ended old new was told = ⊥
 -- So it is in a search.
 abbrev pub FindsIn : Search → Search → Leaf → Type 0
 FindsIn old new leaf =
-    HasFound (formula_of old) old.variables old.shown.items leaf old.found.items new.found.items
+    HasFound (search_formula old) old.variables old.shown.items leaf old.found.items new.found.items
     (model_of old) (model_of new)
 
 -- The search came to a leaf, and goes on with fewer assignments open.
@@ -146,7 +148,7 @@ pub record ComesToLeaf (old new : Search) (leaf : Leaf) : Type 0 where
 
 -- It came to its last leaf.
 pub record ComesToLast (old new : Search) (leaf : Leaf) : Type 0 where
-  pub closed : IsClosed new
+  pub closed : IsExhausted new
   pub job : IsSameJob old new
   pub found : FindsIn old new leaf
   pub leaves : new.leaves ≡ counted old.leaves
@@ -164,12 +166,12 @@ ConflictComesTo old new (Some step) = ComesTo old new step
 -- formula and leave out no shown flip.
 abbrev pub IsLeastEnough : Search → ℕ → Type 0
 IsLeastEnough s level =
-    IsLeastFrom s.base (is_among s.shown.items) (pictured_trail s) (formula_of s) level
+    IsLeastFrom s.base (is_among s.shown.items) (pictured_trail s) (search_formula s) level
 
 -- The least level was found. Nothing but what is tried first has changed.
 pub record ShrinksModel (old new : Search) (level : ℕ) : Type 0 where
   pub least : IsLeastEnough old level
-  pub formula : IsFor (formula_of old) new.shrinker
+  pub formula : IsFor (search_formula old) new.shrinker
   pub rest : new ≡ record old { shrinker = new.shrinker }
 
 -- The values of a model were copied: each item of the trail says the same of its variable.

@@ -34,11 +34,11 @@ pub struct Engine {
 }
 
 impl Model for Engine {
-    ghost use Rattle.live_engine.specs.Engines.{EngineView, view_of, IsEngine};
+    ghost use Rattle.live_engine.specs.Engines.{EngineView, engine_view, IsEngine};
 
     ghost Value = { EngineView };
 
-    ghost view = { λ e. view_of e.subject.value e.search e.phase };
+    ghost view = { λ e. engine_view e.subject.value e.search e.phase };
 
     ghost invariant = { λ e. IsEngine e.subject.value e.search e.phase };
 }
@@ -106,8 +106,8 @@ impl Engine {
         Ok(())
     }
 
-    /// Searches up to the next leaf. A conflict whose decision is hidden is none. The memory without
-    /// which a cube could not be kept is taken first.
+    /// Searches up to the next leaf. A conflict whose decision is hidden is none. The memory
+    /// without which a cube could not be kept is taken first.
     pub fn leaf(&mut self) -> Result<Leaf, AllocError>
         requires running { self.old.job ≢ None }
         ensures leaf { IfOk result (λ leaf. Leafs self.old self.new leaf) }
@@ -235,8 +235,8 @@ impl Engine {
         self.search.hidden_value(variable)
     }
 
-    /// Drops the lemmas of more than `keep` literals; none of the others is fresh. It takes no memory. The time is that of one
-    /// walk over the lemmas.
+    /// Drops the lemmas of more than `keep` literals; none of the others is fresh. It takes no
+    /// memory. The time is that of one walk over the lemmas.
     pub fn drop_lemmas(&mut self, keep: usize)
         requires { self.old.job ≡ None }
         ensures { self.new ≡ record self.old {

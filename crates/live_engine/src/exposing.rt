@@ -9,10 +9,9 @@ ghost use Rattle.live_engine.specs.Searching.{IsGround, IsSearching, pictured_tr
 ghost use Rattle.live_engine.specs.Marks.{AreMarks, plain_literal};
 ghost use Rattle.live_engine.specs.Engines.{IsInPhase, untried_of, here_of, value_told};
 
-use crate::flipping::is_shown;
 use crate::search::{Phase, Search};
 use chrono_trail::{Item, Kind};
-use sat_terms::Cube;
+use sat_terms::{Cube, is_shown};
 use std::alloc::{AllocError, Global};
 
 impl Search {

@@ -1,9 +1,8 @@
 //! Flips: the other side of a decision, after a conflict or a model.
 ghost use Rattle.std.specs.Prelude.{◌≡◌, ◌<◌, ◌≤◌, ◌^◌, pos, slice_index_or, [], false, None, nat_abs};
 ghost use Rattle.std.specs.List.Sorted.{IsStrictlyIncreasing};
-ghost use Rattle.sat_terms.specs.Cubes.{is_among};
 ghost use Rattle.chrono_trail.specs.Clauses.{rest_level};
-ghost use Rattle.chrono_trail.specs.Items.{item_of, is_decided};
+ghost use Rattle.chrono_trail.specs.Items.{item_of, is_decision};
 ghost use Rattle.propagation.specs.Steps.{IsFalseOf};
 ghost use Rattle.projected_decide.specs.Orders.{HasPassed};
 ghost use Rattle.live_engine.specs.Values.{AreCopied};
@@ -12,11 +11,12 @@ ghost use Rattle.live_engine.specs.Steps.{TakesBack, PutsOther, FlipsDecision, C
 
 use crate::search::{Leaf, Search, Step, counted};
 use chrono_trail::{Item, Kind, level_of_rest};
+use sat_terms::is_shown;
 
 impl Search {
-    /// Turns the decision of the conflict's level over, the greatest level of a literal of the false
-    /// clause. Where that is the base or below, nothing is left to try. The answer is the leaf that
-    /// the search came to; None where the decision is hidden, so that it goes on.
+    /// Turns the decision of the conflict's level over, the greatest level of a literal of the
+    /// false clause. Where that is the base or below, nothing is left to try. The answer is the
+    /// leaf that the search came to; None where the decision is hidden, so that it goes on.
     pub(crate) fn on_conflict(&mut self, id: u32) -> Option<Step>
         requires searching { IsSearching self.old }
         requires wrong { IsFalseOf self.old.arena.clauses self.old.trail.items id }
@@ -86,18 +86,10 @@ impl Search {
         requires of { nat_abs decision.lit ≤ self.old.trail.variables }
         requires free { item_of self.old.trail.items (nat_abs decision.lit) ≡ None }
         requires below { level ≤ self.old.trail.level }
-        requires undecided { is_decided kind ≡ false }
+        requires undecided { is_decision kind ≡ false }
         ensures { PutsOther self.old self.new decision level kind result }
     {
         self.trail.assign(-decision.lit, level, kind);
         is_shown(self.shown.as_slice(), decision.lit.unsigned_abs())
     }
-}
-
-/// Whether a variable is one of the shown ones, by halves.
-pub(crate) fn is_shown(shown: &[u32], variable: u32) -> bool
-    requires { IsStrictlyIncreasing shown.now }
-    ensures { result ≡ is_among shown.now variable }
-{
-    shown.binary_search(&variable).is_ok()
 }

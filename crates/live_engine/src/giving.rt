@@ -11,10 +11,9 @@ ghost use Rattle.live_engine.specs.Gives.{pictured_before, FindsNextShown, IsKep
 ghost use Rattle.live_engine.specs.Gives.{leaves_gone, KeepsWithin, HandsOutOrNot};
 
 use crate::exposing::{mark, plain_literal};
-use crate::flipping::is_shown;
 use crate::search::Search;
 use prefix_jobs::Outcome;
-use sat_terms::{Cube, Items, within};
+use sat_terms::{Cube, Items, is_shown, within};
 use std::alloc::{AllocError, Global};
 use std::mem::replace;
 

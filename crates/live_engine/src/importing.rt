@@ -8,7 +8,7 @@ ghost use Rattle.search_region.specs.Steady.{Follows};
 ghost use Rattle.clause_arena.specs.Clauses.{HasDistinctVariables, has_room};
 ghost use Rattle.clause_arena.specs.Once.{once};
 ghost use Rattle.chrono_trail.specs.Trails.{IsTrail};
-ghost use Rattle.live_engine.specs.Searching.{IsGround, formula_of};
+ghost use Rattle.live_engine.specs.Searching.{IsGround, search_formula};
 ghost use Rattle.live_engine.specs.Imports.{Imports, NegationsTell, assumed_negation};
 ghost use Rattle.live_engine.specs.Sending.{FindsShort, Skips, SendsNext};
 ghost use Rattle.std.specs.Prelude.{◌+◌};
@@ -92,7 +92,7 @@ impl Search {
         requires empty { self.old.trail.items ≡ [] }
         requires named { All (IsLiteralOf self.old.variables) lits.now }
         requires distinct { HasDistinctVariables lits.now }
-        requires follows { Follows (formula_of self.old) lits.now }
+        requires follows { Follows (search_formula self.old) lits.now }
         requires room { has_room self.old.arena (length lits.now) ≡ true }
         ensures clauses { IfOk result
             (λ _. self.new.arena.clauses ≡ self.old.arena.clauses ++ lits.now ∷ []) }

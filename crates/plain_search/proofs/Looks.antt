@@ -14,14 +14,14 @@ use Rattle.search_region.proofs.Back.{unassigned_newer}
 use Rattle.search_region.proofs.Literals.{all_weaker, any_weaker}
 use Rattle.search_region.proofs.ReadCube.{picked_literal-oldest}
 use Rattle.chrono_trail.specs.declared.item.Item.{Item}
-use Rattle.chrono_trail.specs.Items.{item_of, are_distinct, upto}
+use Rattle.chrono_trail.specs.Items.{item_of, are_distinct, is_upto}
 use Rattle.chrono_trail.specs.Pictures.{pictured, picture_of}
 use Rattle.chrono_trail.proofs.Items.{none_is}
 use Rattle.chrono_trail.proofs.Pictures.{is_assigned-picture, picture-push, all-picture, any-picture}
 use Rattle.plain_search.specs.declared.decide.Reached.{Reached}
 use Rattle.plain_search.specs.declared.search.Search.{Search}
 use Rattle.plain_search.specs.Walks.{HasReached, AreSetUpto}
-use Rattle.plain_search.specs.Searching.{IsSearching, pictured_trail}
+use Rattle.plain_search.specs.Searching.{IsListing, listed_trail}
 use Rattle.std.specs.Ordering.{int_eq, ord_max}
 use Rattle.std.proofs.lemmas.Grind.{common_steps}
 use Rattle.std.proofs.lemmas.Bool.Decides.{nat_tests}
@@ -63,7 +63,7 @@ distinct_over f shown (i ∷ later) older s =
     ∙ unassigned_newer f shown (picture_of f later) (pictured f i) older whole))
     (distinct_over f shown later (pictured f i ∷ older) whole)
 
-pub items_distinct : (s : Subject) (search : Search) → IsSearching s search → are_distinct search.trail.items ≡ true
+pub items_distinct : (s : Subject) (search : Search) → IsListing s search → are_distinct search.trail.items ≡ true
 items_distinct s search h =
     distinct_over s.formula.clauses (is_among s.shown) search.trail.items []
     (subst (Steady s.formula.clauses (is_among s.shown)) (sym (append-nil (picture_of s.formula.clauses search.trail.items))) h.running.steady)
@@ -132,7 +132,7 @@ reached_stays old added p reached h = record {
 abbrev pub counts : Subject → ℕ → ℤ → Item → Bool
 counts s b l i = int_eq l i.lit && (not (is_among s.shown (nat_abs i.lit)) || nat_le i.level b)
 
-module _ (s : Subject) (now : Search) (h : IsSearching s now) where
+module _ (s : Subject) (now : Search) (h : IsListing s now) where
   -- whether a literal is true is seen at the item of its variable
   true_item : (l : ℤ) → is_true now.trail.items l ≡ passes (λ i. int_eq l i.lit) (item_of now.trail.items (nat_abs l))
   true_item l = any_item (λ i. int_eq l i.lit) (nat_abs l) (λ i same. ap nat_abs (sym (int_eq-true l i.lit same))) now.trail.items
@@ -190,27 +190,27 @@ module _ (s : Subject) (now : Search) (h : IsSearching s now) where
           ∙ ap (λ x. x && (not (is_among s.shown (nat_abs i.lit)) || nat_le i.level b)) (ap (int_eq l) same ∙ int_eq-same l)
 
     -- a true literal counts at the current level
-    true_counts_there : is_true now.trail.items l ≡ true → counts_within s now (picture.depth (pictured_trail s now)) l ≡ true
-    true_counts_there on = counts_item (picture.depth (pictured_trail s now)) ∙ at_item (item_of now.trail.items (nat_abs l)) refl (sym (true_item l) ∙ on)
+    true_counts_there : is_true now.trail.items l ≡ true → counts_within s now (picture.depth (listed_trail s now)) l ≡ true
+    true_counts_there on = counts_item (picture.depth (listed_trail s now)) ∙ at_item (item_of now.trail.items (nat_abs l)) refl (sym (true_item l) ∙ on)
       where
         at_item : (o : Option Item) → item_of now.trail.items (nat_abs l) ≡ o → passes (λ i. int_eq l i.lit) o ≡ true →
-            passes (counts s (picture.depth (pictured_trail s now)) l) o ≡ true
+            passes (counts s (picture.depth (listed_trail s now)) l) o ≡ true
         at_item None e same = same
         at_item (Some i) e same =
-            and_from (int_eq l i.lit) (not (is_among s.shown (nat_abs i.lit)) || nat_le i.level (picture.depth (pictured_trail s now))) same
-            (or_right (not (is_among s.shown (nat_abs i.lit))) (nat_le i.level (picture.depth (pictured_trail s now)))
-            (found_is (λ j. nat_eq (nat_abs l) (nat_abs j.lit)) (upto (picture.depth (pictured_trail s now))) now.trail.items i e
-            (sym (all-picture s.formula.clauses (picture.upto (picture.depth (pictured_trail s now))) now.trail.items)
-            ∙ levels_within s.formula.clauses (is_among s.shown) (picture.depth (pictured_trail s now)) (pictured_trail s now) h.running.steady (omega arith))))
+            and_from (int_eq l i.lit) (not (is_among s.shown (nat_abs i.lit)) || nat_le i.level (picture.depth (listed_trail s now))) same
+            (or_right (not (is_among s.shown (nat_abs i.lit))) (nat_le i.level (picture.depth (listed_trail s now)))
+            (found_is (λ j. nat_eq (nat_abs l) (nat_abs j.lit)) (is_upto (picture.depth (listed_trail s now))) now.trail.items i e
+            (sym (all-picture s.formula.clauses (picture.upto (picture.depth (listed_trail s now))) now.trail.items)
+            ∙ levels_within s.formula.clauses (is_among s.shown) (picture.depth (listed_trail s now)) (listed_trail s now) h.running.steady (omega arith))))
 
   -- so a clause of a model needs some level
   pub clause_level_there : (c : List ℤ) (r : Option ℕ) → list_any (is_true now.trail.items) c ≡ true →
       ((b : ℕ) → list_any (counts_within s now b) c ≡ level_within b r) → IsSome r
   clause_level_there c r on least =
-      level_there r (sym (least (picture.depth (pictured_trail s now)))
-      ∙ any_weaker (is_true now.trail.items) (counts_within s now (picture.depth (pictured_trail s now))) true_counts_there c on)
+      level_there r (sym (least (picture.depth (listed_trail s now)))
+      ∙ any_weaker (is_true now.trail.items) (counts_within s now (picture.depth (listed_trail s now))) true_counts_there c on)
     where
-      level_there : (o : Option ℕ) → level_within (picture.depth (pictured_trail s now)) o ≡ true → IsSome o
+      level_there : (o : Option ℕ) → level_within (picture.depth (listed_trail s now)) o ≡ true → IsSome o
       level_there None none = cc
       level_there (Some level) some = search rules
 

@@ -7,8 +7,8 @@ use Rattle.chrono_trail.specs.Items.{item_of}
 use Rattle.plain_search.specs.declared.decide.Reached.{Reached}
 
 -- The variable has no item.
-abbrev pub IsFree : List Item → ℕ → Type 0
-IsFree items v = item_of items v ≡ None
+abbrev pub IsUnset : List Item → ℕ → Type 0
+IsUnset items v = item_of items v ≡ None
 
 -- Each of these variables is set.
 abbrev pub AreSet : List Item → List ℕ → Type 0
@@ -28,4 +28,4 @@ pub record HasReached (items : List Item) (p : List ℕ) (reached : Reached) : T
 abbrev pub IsNextVariable : List Item → ℕ → List ℕ → Option ℕ → Type 0
 IsNextVariable items n p None = AreSetUpto items n
 IsNextVariable items n p (Some v) =
-    (0 < v) × (v ≤ n) × IsFree items v × (is_among p v ≡ false → AreSet items p)
+    (0 < v) × (v ≤ n) × IsUnset items v × (is_among p v ≡ false → AreSet items p)

@@ -62,7 +62,8 @@ fn are_variables_of(shown: &[u32], variables: u32) -> bool
     true
 }
 
-/// Whether this is a subject of at most 1,000,000 variables, with few clauses and no given literals.
+/// Whether this is a subject of at most 1,000,000 variables, with few clauses and no given
+/// literals.
 pub(crate) fn is_subject(subject: &Subject) -> bool
     ensures { result ≡ true → IsSubject subject.now.formula.variables
         subject.now.formula.clauses subject.now.shown subject.now.under }

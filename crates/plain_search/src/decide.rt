@@ -1,8 +1,8 @@
 //! Decisions: the lowest free variable, false first.
 ghost use Rattle.std.specs.Prelude.{◌≡◌, ◌+◌, ◌<◌, ◌≤◌, length, take, slice_index_or};
 ghost use Rattle.std.specs.List.{All};
-ghost use Rattle.plain_search.specs.Walks.{IsFree, AreSet, AreSetUpto, HasReached, IsNextVariable};
-ghost use Rattle.plain_search.specs.Searching.{IsSearching};
+ghost use Rattle.plain_search.specs.Walks.{IsUnset, AreSet, AreSetUpto, HasReached, IsNextVariable};
+ghost use Rattle.plain_search.specs.Searching.{IsListing};
 ghost use Rattle.plain_search.specs.Steps.{DecidesOrEnds};
 
 use crate::search::Search;
@@ -35,7 +35,7 @@ impl Reached {
 impl Search {
     /// Decides the lowest free variable false, on a new level. False where each variable is set.
     pub(crate) fn decide(&mut self, subject: &Subject) -> bool
-        requires { IsSearching subject.now self.old }
+        requires { IsListing subject.now self.old }
         ensures { DecidesOrEnds subject.now self.old self.new result }
     {
         let variables = subject.formula.variables;
@@ -78,7 +78,7 @@ fn first_free_shown(trail: &Trail, shown: &[u32], from: usize) -> usize
     requires before { AreSet trail.now.items (take from shown.now) }
     ensures set { AreSet trail.now.items (take result shown.now) }
     ensures free { result < length shown.now →
-        IsFree trail.now.items (slice_index_or shown.now result 0) }
+        IsUnset trail.now.items (slice_index_or shown.now result 0) }
 {
     for place in from..shown.len() {
         if trail.item(shown[place]).is_none() {
@@ -94,7 +94,7 @@ fn last_set(trail: &Trail, variables: u32, from: u32) -> u32
     requires variables { variables ≤ trail.now.variables }
     requires before { AreSetUpto trail.now.items from }
     ensures set { AreSetUpto trail.now.items result }
-    ensures free { result < variables → IsFree trail.now.items (result + 1) }
+    ensures free { result < variables → IsUnset trail.now.items (result + 1) }
 {
     for below in from..variables {
         if trail.item(below + 1).is_none() {

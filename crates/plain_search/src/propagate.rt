@@ -1,6 +1,6 @@
 //! Unit propagation, by scanning the formula.
 ghost use Rattle.std.specs.Prelude.{◌≤◌};
-ghost use Rattle.plain_search.specs.Searching.{IsSearching, left};
+ghost use Rattle.plain_search.specs.Searching.{IsListing, work_left};
 ghost use Rattle.plain_search.specs.Steps.{RoundCameTo};
 
 use crate::search::Search;
@@ -21,9 +21,9 @@ pub(crate) enum Propagated {
 impl Search {
     /// Scans each clause once, and implies the literal of each unit one, on the current level.
     pub(crate) fn propagate(&mut self, subject: &Subject) -> Propagated
-        requires { IsSearching subject.now self.old }
-        ensures searching { IsSearching subject.now self.new }
-        ensures left { left subject.now self.new ≤ left subject.now self.old }
+        requires { IsListing subject.now self.old }
+        ensures searching { IsListing subject.now self.new }
+        ensures left { work_left subject.now self.new ≤ work_left subject.now self.old }
         ensures outcome { RoundCameTo subject.now self.old self.new result }
     {
         let mut propagated = Propagated::Quiet;

@@ -2,7 +2,7 @@
 ghost use Rattle.std.specs.Prelude.{[], IfOk};
 ghost use Rattle.sat_terms.specs.RightList.{IsRightList};
 ghost use Rattle.sat_terms.specs.Subjects.{IsSubject};
-ghost use Rattle.plain_search.specs.Searching.{IsSearching, Advances};
+ghost use Rattle.plain_search.specs.Searching.{IsListing, Advances};
 
 use crate::decide::Reached;
 use crate::pairs::find_pairs;
@@ -29,7 +29,7 @@ impl Search {
     fn make(alloc: Global, subject: &Subject) -> Result<Search, AllocError>
         requires { IsSubject subject.now.formula.variables subject.now.formula.clauses
             subject.now.shown subject.now.under }
-        ensures { IfOk result (IsSearching subject.now) }
+        ensures { IfOk result (IsListing subject.now) }
     {
         Ok(Search {
             trail: Trail::make(alloc, subject.formula.variables)?,
@@ -42,7 +42,7 @@ impl Search {
     /// Makes one move: a round of propagation, and where it came to rest, what follows a conflict,
     /// a decision, or what follows a model. False where the search is over.
     fn step(&mut self, alloc: Global, subject: &Subject) -> Result<bool, AllocError>
-        requires { IsSearching subject.now self.old }
+        requires { IsListing subject.now self.old }
         ensures { IfOk result (Advances subject.now self.old self.new) }
     {
         match self.propagate(subject) {
@@ -63,9 +63,10 @@ impl Search {
 }
 
 /// All solutions of the subject's formula, projected on its shown variables, whatever its given
-/// literals: the right list of it, sorted and pairwise apart. The time grows with the number of branches: each walks over the
-/// variables once, and scans all clauses after each decision and each round of implied literals.
-/// Memory is that of the formula's variables, of a mark for each clause, and of the list.
+/// literals: the right list of it, sorted and pairwise apart. The time grows with the number of
+/// branches: each walks over the variables once, and scans all clauses after each decision and each
+/// round of implied literals. Memory is that of the formula's variables, of a mark for each clause,
+/// and of the list.
 pub fn enumerate_plain(alloc: Global, subject: &Subject) -> Result<Vec<Cube>, AllocError>
     requires { IsSubject subject.now.formula.variables subject.now.formula.clauses
         subject.now.shown subject.now.under }

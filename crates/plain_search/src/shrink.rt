@@ -4,8 +4,8 @@ ghost use Rattle.std.specs.Prelude.{◌≡◌, ℕ, ◌≤◌, ◌||◌, nat_le,
 ghost use Rattle.std.specs.List.{All};
 ghost use Rattle.std.specs.List.Sorted.{IsStrictlyIncreasing};
 ghost use Rattle.sat_terms.specs.Literals.{IsLiteralOf};
-ghost use Rattle.plain_search.specs.Searching.{IsSearching};
-ghost use Rattle.plain_search.specs.Steps.{IsModel, IsLeastLevel, Shrinks, level_within};
+ghost use Rattle.plain_search.specs.Searching.{IsListing};
+ghost use Rattle.plain_search.specs.Steps.{IsModel, IsLeastLevel, FindsLeast, level_within};
 ghost use Rattle.plain_search.specs.Steps.{is_shown_flip, flips_within, needs_within};
 ghost use Rattle.plain_search.specs.Steps.{counts_within, counts_any, cube_within};
 
@@ -17,9 +17,9 @@ use std::alloc::{AllocError, Global};
 impl Search {
     /// Takes a model: its cube up to the least level is found. The answer is that level.
     pub(crate) fn shrink(&mut self, alloc: Global, subject: &Subject) -> Result<u32, AllocError>
-        requires searching { IsSearching subject.now self.old }
+        requires searching { IsListing subject.now self.old }
         requires model { IsModel subject.now self.old }
-        ensures { IfOk result (Shrinks subject.now self.old self.new) }
+        ensures { IfOk result (FindsLeast subject.now self.old self.new) }
     {
         let level = self.least_level(subject);
         let cube = self.cube_up_to(alloc, subject, level)?;
@@ -30,7 +30,7 @@ impl Search {
     /// The least level of a model: no shown flipped literal is above it, and each clause has a true
     /// literal among the hidden ones and the shown ones up to it, or holds a pair.
     fn least_level(&self, subject: &Subject) -> u32
-        requires searching { IsSearching subject.now self.now }
+        requires searching { IsListing subject.now self.now }
         requires model { IsModel subject.now self.now }
         ensures { IsLeastLevel subject.now self.now result }
     {
@@ -46,7 +46,7 @@ impl Search {
     /// The greatest level of a shown literal that was flipped; 0 where there is none. A cube has to
     /// hold these, or it would overlap one that was found on the other side.
     fn flips_level(&self, subject: &Subject) -> u32
-        requires { IsSearching subject.now self.now }
+        requires { IsListing subject.now self.now }
         ensures { (b : ℕ) → flips_within subject.now self.now b ≡ nat_le result b }
     {
         let mut level = 0;
@@ -60,7 +60,7 @@ impl Search {
 
     /// The least level at which a literal of the clause counts; None where none does.
     fn clause_level(&self, subject: &Subject, clause: &[i32]) -> Option<u32>
-        requires searching { IsSearching subject.now self.now }
+        requires searching { IsListing subject.now self.now }
         requires named { All (IsLiteralOf subject.now.formula.variables) clause.now }
         ensures { (b : ℕ) → counts_any subject.now self.now b clause.now ≡ level_within b result }
     {
@@ -74,7 +74,7 @@ impl Search {
     /// The level from which on a literal counts: its own for a true shown one, and 0 for a true
     /// hidden one. None where it is not true.
     fn literal_level(&self, subject: &Subject, lit: i32) -> Option<u32>
-        requires searching { IsSearching subject.now self.now }
+        requires searching { IsListing subject.now self.now }
         requires named { nat_abs lit ≤ subject.now.formula.variables }
         ensures { (b : ℕ) → counts_within subject.now self.now b lit ≡ level_within b result }
     {
@@ -88,7 +88,7 @@ impl Search {
 
     /// The cube of the shown literals up to this level.
     fn cube_up_to(&self, alloc: Global, subject: &Subject, level: u32) -> Result<Cube, AllocError>
-        requires { IsSearching subject.now self.now }
+        requires { IsListing subject.now self.now }
         ensures { IfOk result (λ cube. cube ≡ cube_within subject.now self.now level) }
     {
         let mut lits = Vec::new(alloc);

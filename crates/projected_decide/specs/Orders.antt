@@ -37,7 +37,7 @@ abbrev pub HasPassed : List Item → OrderView → Type 0
 HasPassed items o = list_all (is_set items) (take o.from o.order) ≡ true
 
 -- The variables of the order are those of the table, which tells the place of each.
-pub record IsKept (order places : List ℕ) : Type 0 where
+pub record TellsPlaces (order places : List ℕ) : Type 0 where
   pub some : 0 < length places
   pub small : length places ≤ 2 ^ 31
   pub within : All (λ v. v < length places) order

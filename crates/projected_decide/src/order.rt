@@ -2,7 +2,7 @@
 ghost use Rattle.std.specs.Prelude.{◌≡◌, ◌<◌, ◌≤◌, ◌^◌, true, false, IfOk, length, take, filter, min, slice_index};
 ghost use Rattle.std.specs.List.{All, list_all};
 ghost use Rattle.sat_terms.specs.Subjects.{IsShown};
-ghost use Rattle.chrono_trail.specs.Items.{upto};
+ghost use Rattle.chrono_trail.specs.Items.{is_upto};
 ghost use Rattle.projected_decide.specs.Orders.{order_of, is_set, next_decision, place_in, HasPassed};
 
 use crate::making::{in_order, places_of};
@@ -20,7 +20,7 @@ pub struct Order {
 
 impl Model for Order {
     ghost use Rattle.std.specs.Prelude.{length, ◌-◌};
-    ghost use Rattle.projected_decide.specs.Orders.{OrderView, IsKept};
+    ghost use Rattle.projected_decide.specs.Orders.{OrderView, TellsPlaces};
 
     ghost Value = { OrderView };
 
@@ -30,7 +30,7 @@ impl Model for Order {
       from = o.from;
     } };
 
-    ghost invariant = { λ o. IsKept o.order.items o.places.items };
+    ghost invariant = { λ o. TellsPlaces o.order.items o.places.items };
 }
 
 impl Order {
@@ -86,7 +86,7 @@ impl Order {
         requires variables { self.old.variables ≡ trail.now.variables }
         requires passed { HasPassed trail.now.items self.old }
         requires level { level ≤ trail.now.level }
-        ensures passed { HasPassed (filter (upto level) trail.now.items) self.new }
+        ensures passed { HasPassed (filter (is_upto level) trail.now.items) self.new }
         ensures order { self.new ≡ record self.old { from = self.new.from } }
     {
         if level == trail.level() {

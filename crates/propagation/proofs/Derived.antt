@@ -19,7 +19,7 @@ use Rattle.chrono_trail.specs.Clauses.{is_true, is_false, is_false_clause, is_or
 use Rattle.chrono_trail.proofs.Clauses.{false_from_other}
 use Rattle.chrono_trail.proofs.Pairs.{pair_at_rest}
 use Rattle.propagation.specs.Steps.{IsImplied, AreImplied, AreAtRest}
-use Rattle.propagation.specs.Derived.{AreDerived, PropagationDerives, ConflictCloses, RestIsClosed, RestStaysOpen}
+use Rattle.propagation.specs.Derived.{AreDerived, PropagationDerives, FalseClauseCloses, RestIsClosed, RestStaysOpen}
 use Rattle.propagation.proofs.Reasons.{distinct_front}
 use Rattle.propagation.proofs.Truths.{true_negated, true_from_item}
 
@@ -67,7 +67,7 @@ propagation_derives clauses a old new literals apart steps derived =
     subst (AreDerived clauses a) (sym steps.grows)
     (derive_all clauses a old steps.added literals (subst (λ xs. are_distinct xs ≡ true) steps.grows apart) steps.implied derived)
 
-pub conflict_closes : ConflictCloses
+pub conflict_closes : FalseClauseCloses
 conflict_closes clauses a items id literals apart wrong derived =
     let c : List ℤ = get_or clauses id [] in
     record {

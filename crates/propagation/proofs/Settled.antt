@@ -6,7 +6,7 @@ use Rattle.std.proofs.lemmas.Bool.{both_ways, cases_eq, cases_Bool, or_cases, or
 use Rattle.std.proofs.lemmas.List.{take_at, take-append-drop}
 use Rattle.std.proofs.lemmas.List.Elements.{filter-append}
 use Rattle.chrono_trail.specs.declared.item.Item.{Item}
-use Rattle.chrono_trail.specs.Items.{upto}
+use Rattle.chrono_trail.specs.Items.{is_upto}
 use Rattle.chrono_trail.specs.Trails.{TrailView}
 use Rattle.chrono_trail.specs.Clauses.{is_true, is_false}
 use Rattle.chrono_trail.proofs.Kept.{fewer_stay}
@@ -50,8 +50,8 @@ any_weaker p q (l ∷ c) weaker h = elim (or_cases (p l) (list_any p c) h) [
 
 pub held_more : (items more : List Item) (c : List ℤ) → is_held items c ≡ true → is_held (items ++ more) c ≡ true
 held_more items more c h =
-    subst (λ xs. list_any (is_true xs) c ≡ true) (sym (filter-append (upto 0) items more))
-    (any_weaker (is_true (filter (upto 0) items)) (is_true (filter (upto 0) items ++ filter (upto 0) more)) c (λ l on. true_more (filter (upto 0) items) (filter (upto 0) more) l on) h)
+    subst (λ xs. list_any (is_true xs) c ≡ true) (sym (filter-append (is_upto 0) items more))
+    (any_weaker (is_true (filter (is_upto 0) items)) (is_true (filter (is_upto 0) items ++ filter (is_upto 0) more)) c (λ l on. true_more (filter (is_upto 0) items) (filter (is_upto 0) more) l on) h)
 
 pub push_done : (clauses : List (List ℤ)) (propagator : PropagatorView) (old new : TrailView) (more : List Item) →
     HasDone clauses propagator old → new.items ≡ old.items ++ more → old.level ≤ new.level → new.seen ≡ old.seen → HasDone clauses propagator new
@@ -89,7 +89,7 @@ stay_first p seen items =
     ∙ take_at (filter p (take seen items)) (filter p (drop seen items)) (length (filter p (take seen items))) refl
 
 -- level 0 is of each level
-lowest_stay : (k : ℕ) (items : List Item) → filter (upto 0) (filter (upto k) items) ≡ filter (upto 0) items
+lowest_stay : (k : ℕ) (items : List Item) → filter (is_upto 0) (filter (is_upto k) items) ≡ filter (is_upto 0) items
 lowest_stay k [] = refl
 lowest_stay k (i ∷ later) = elim (cases_Bool (nat_le i.level k)) [
   | inl stays ↦ rw stays (elim (cases_Bool (nat_le i.level 0)) [
@@ -102,11 +102,11 @@ lowest_stay k (i ∷ later) = elim (cases_Bool (nat_le i.level k)) [
 ]
 
 back_done : (clauses : List (List ℤ)) (propagator : PropagatorView) (old new : TrailView) (k : ℕ) → HasDone clauses propagator old →
-    (k ≡ 0 → ⊥) → new.items ≡ filter (upto k) old.items → new.level ≡ k → new.seen ≡ length (filter (upto k) (take old.seen old.items)) →
+    (k ≡ 0 → ⊥) → new.items ≡ filter (is_upto k) old.items → new.level ≡ k → new.seen ≡ length (filter (is_upto k) (take old.seen old.items)) →
     HasDone clauses propagator new
 back_done clauses propagator old new k h some items level seen = record {
   watches = h.watches;
-  marked = subst (λ n. n ≤ length new.items) (sym seen) (subst (λ xs. length (filter (upto k) (take old.seen old.items)) ≤ length xs) (sym items) (fewer_stay (upto k) old.seen old.items));
+  marked = subst (λ n. n ≤ length new.items) (sym seen) (subst (λ xs. length (filter (is_upto k) (take old.seen old.items)) ≤ length xs) (sym items) (fewer_stay (is_upto k) old.seen old.items));
   eased = λ n stands.
       let e = h.eased n stands in
       record {
@@ -114,25 +114,25 @@ back_done clauses propagator old new k h some items level seen = record {
         lowest = λ low off. absurd (some (sym level ∙ low));
       };
   held = λ more id inside short.
-      subst (λ xs. list_any (is_true xs) (get_or clauses id []) ≡ true) (sym (ap (filter (upto 0)) items ∙ lowest_stay k old.items))
+      subst (λ xs. list_any (is_true xs) (get_or clauses id []) ≡ true) (sym (ap (filter (is_upto 0)) items ∙ lowest_stay k old.items))
       (h.held (marked_before more) id inside short);
 }
   where
-    marks : take new.seen new.items ≡ filter (upto k) (take old.seen old.items)
-    marks = ap (λ n. take n new.items) seen ∙ ap (take (length (filter (upto k) (take old.seen old.items)))) items ∙ stay_first (upto k) old.seen old.items
+    marks : take new.seen new.items ≡ filter (is_upto k) (take old.seen old.items)
+    marks = ap (λ n. take n new.items) seen ∙ ap (take (length (filter (is_upto k) (take old.seen old.items)))) items ∙ stay_first (is_upto k) old.seen old.items
 
     before : (l : ℤ) → is_seen_false new l ≡ true → is_seen_false old l ≡ true
-    before l off = false_stays (upto k) (take old.seen old.items) l (subst (λ xs. is_false xs l ≡ true) marks off)
+    before l off = false_stays (is_upto k) (take old.seen old.items) l (subst (λ xs. is_false xs l ≡ true) marks off)
 
     marked_before : 0 < new.seen → 0 < old.seen
     marked_before more = elim (cases_eq old.seen 0) [
-      | inl none ↦ let nothing : new.seen ≡ 0 = seen ∙ ap (λ n. length (filter (upto k) (take n old.items))) none in absurd (omega arith)
+      | inl none ↦ let nothing : new.seen ≡ 0 = seen ∙ ap (λ n. length (filter (is_upto k) (take n old.items))) none in absurd (omega arith)
       | inr marked ↦ omega (arith, marked)
     ]
 
 pub settled_back : BacktrackingStaysSettled
 unfolding IsSettled
 settled_back clauses propagator old new k h variables items level seen = elim (cases_eq k 0) [
-  | inl lowest ↦ unseen_done clauses propagator new h.watches (seen ∙ ap (λ b. cond b 0 (length (filter (upto k) (take old.seen old.items)))) (eq-eqb k 0 lowest))
-  | inr some ↦ back_done clauses propagator old new k h some items level (seen ∙ ap (λ b. cond b 0 (length (filter (upto k) (take old.seen old.items)))) (ne_eqb k 0 some))
+  | inl lowest ↦ unseen_done clauses propagator new h.watches (seen ∙ ap (λ b. cond b 0 (length (filter (is_upto k) (take old.seen old.items)))) (eq-eqb k 0 lowest))
+  | inr some ↦ back_done clauses propagator old new k h some items level (seen ∙ ap (λ b. cond b 0 (length (filter (is_upto k) (take old.seen old.items)))) (ne_eqb k 0 some))
 ]

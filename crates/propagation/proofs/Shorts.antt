@@ -5,7 +5,7 @@ use Rattle.std.specs.Ordering.{int_eq}
 use Rattle.std.proofs.lemmas.Bool.{and_from, or_cases, or_left, or_right, cases_Bool}
 use Rattle.search_region.proofs.Literals.{test_from_same}
 use Rattle.chrono_trail.specs.declared.item.Item.{Item}
-use Rattle.chrono_trail.specs.Items.{item_of, upto}
+use Rattle.chrono_trail.specs.Items.{item_of, is_upto}
 use Rattle.chrono_trail.specs.Clauses.{is_true}
 use Rattle.propagation.specs.Settled.{is_held}
 use Rattle.propagation.specs.Steps.{Propagates}
@@ -25,19 +25,19 @@ sole (l ∷ []) some short = refl
 sole (l ∷ m ∷ c) some short = absurd (omega arith)
 
 -- an item of level 0 holds its literal
-pub held_by : (items : List Item) (l : ℤ) (i : Item) → item_of items (nat_abs l) ≡ Some i → i.lit ≡ l → i.level ≡ 0 → is_true (filter (upto 0) items) l ≡ true
+pub held_by : (items : List Item) (l : ℤ) (i : Item) → item_of items (nat_abs l) ≡ Some i → i.lit ≡ l → i.level ≡ 0 → is_true (filter (is_upto 0) items) l ≡ true
 held_by [] l i h same low = cc
 held_by (j ∷ later) l i h same low = elim (cases_Bool (nat_eq (nat_abs l) (nat_abs j.lit))) [
   | inl here ↦
       let some : Some j ≡ Some i = rw here at h in
       let equal : j ≡ i = cc in
       let stays : nat_le j.level 0 ≡ true = ap (λ (x : Item). nat_le x.level 0) equal ∙ ap (λ k. nat_le k 0) low in
-      rw stays (or_left (int_eq l j.lit) (is_true (filter (upto 0) later) l) (test_from_same l j.lit (sym same ∙ ap (λ (x : Item). x.lit) (sym equal))))
+      rw stays (or_left (int_eq l j.lit) (is_true (filter (is_upto 0) later) l) (test_from_same l j.lit (sym same ∙ ap (λ (x : Item). x.lit) (sym equal))))
   | inr away ↦
       let rest : item_of later (nat_abs l) ≡ Some i = rw away at h in
       let below = held_by later l i rest same low in
       elim (cases_Bool (nat_le j.level 0)) [
-        | inl stays ↦ rw stays (or_right (int_eq l j.lit) (is_true (filter (upto 0) later) l) below)
+        | inl stays ↦ rw stays (or_right (int_eq l j.lit) (is_true (filter (is_upto 0) later) l) below)
         | inr leaves ↦ rw leaves below
       ]
 ]
@@ -58,7 +58,7 @@ true_stays p (i ∷ later) l h = elim (cases_Bool (p i)) [
 ]
 
 pub met_from_held : (items : List Item) (c : List ℤ) → is_held items c ≡ true → list_any (is_true items) c ≡ true
-met_from_held items c h = any_weaker (is_true (filter (upto 0) items)) (is_true items) c (λ l on. true_stays (upto 0) items l on) h
+met_from_held items c h = any_weaker (is_true (filter (is_upto 0) items)) (is_true items) c (λ l on. true_stays (is_upto 0) items l on) h
 
 pub met_more : (items more : List Item) (c : List ℤ) → list_any (is_true items) c ≡ true → list_any (is_true (items ++ more)) c ≡ true
 met_more items more c h = any_weaker (is_true items) (is_true (items ++ more)) c (λ l on. true_more items more l on) h

@@ -25,8 +25,8 @@ PropagationDerives = (clauses : List (List ℤ)) (a : List ℤ) (old new : List 
     AreDerived clauses a old → AreDerived clauses a new
 
 -- Where a clause is false under derived literals, the closure closes.
-abbrev pub ConflictCloses : Type 0
-ConflictCloses = (clauses : List (List ℤ)) (a : List ℤ) (items : List Item) (id : ℕ) →
+abbrev pub FalseClauseCloses : Type 0
+FalseClauseCloses = (clauses : List (List ℤ)) (a : List ℤ) (items : List Item) (id : ℕ) →
     All (All IsLiteral) clauses → are_distinct items ≡ true → IsFalseOf clauses items id →
     AreDerived clauses a items → Closes clauses a
 

@@ -3,7 +3,7 @@
 use Rattle.std.specs.Prelude.{◌≡◌, ℕ, ◌+◌, ◌*◌, ◌<◌, ◌≤◌, Bool, true, false, List, [], ◌++◌, length, filter, take, slice_index_or, ℤ}
 use Rattle.std.specs.List.{list_any}
 use Rattle.chrono_trail.specs.declared.item.Item.{Item}
-use Rattle.chrono_trail.specs.Items.{upto}
+use Rattle.chrono_trail.specs.Items.{is_upto}
 use Rattle.chrono_trail.specs.Trails.{TrailView, seen_back}
 use Rattle.chrono_trail.specs.Clauses.{is_true, is_false}
 use Rattle.watch_lists.specs.Views.{ListsView, Stands, lit_of, partner}
@@ -47,7 +47,7 @@ AreEased lists trail = (n : ℕ) → Stands lists n →
 
 -- A literal of the clause is true at level 0, which no backtracking takes back.
 abbrev pub is_held : List Item → List ℤ → Bool
-is_held items c = list_any (is_true (filter (upto 0) items)) c
+is_held items c = list_any (is_true (filter (is_upto 0) items)) c
 
 -- Each clause of no or one literal, which no list has, is held.
 abbrev pub AreHeld : List (List ℤ) → List Item → Type 0
@@ -95,5 +95,5 @@ abbrev pub BacktrackingStaysSettled : Type 0
 BacktrackingStaysSettled = (clauses : List (List ℤ)) (propagator : PropagatorView)
     (old new : TrailView) (k : ℕ) →
     IsSettled clauses propagator old → new.variables ≡ old.variables →
-    new.items ≡ filter (upto k) old.items → new.level ≡ k → new.seen ≡ seen_back k old →
+    new.items ≡ filter (is_upto k) old.items → new.level ≡ k → new.seen ≡ seen_back k old →
     IsSettled clauses propagator new

@@ -1,6 +1,6 @@
 //! The laws of propagation. Each function does nothing; its contract is the law, proved.
 ghost use Rattle.propagation.specs.Laws.{ImpliedItemsHaveReasons, PropagationKeepsReasons};
-ghost use Rattle.propagation.specs.Derived.{PropagationDerives, ConflictCloses};
+ghost use Rattle.propagation.specs.Derived.{PropagationDerives, FalseClauseCloses};
 ghost use Rattle.propagation.specs.Derived.{RestIsClosed, RestStaysOpen};
 ghost use Rattle.propagation.specs.Settled.{SettledWatches, UnseenIsSettled, ClearingStaysSettled};
 ghost use Rattle.propagation.specs.Settled.{AppendingStaysSettled, BacktrackingStaysSettled};
@@ -31,7 +31,7 @@ pub fn a_trail_stays_settled()
 /// clause the closure closes.
 pub fn propagation_stays_in_the_closure()
     ensures derives { PropagationDerives }
-    ensures closes { ConflictCloses }
+    ensures closes { FalseClauseCloses }
 {}
 
 /// Where no clause is false or unit, as after Quiet at level 0, the literals on the trail are a

@@ -8,8 +8,8 @@ pub struct Formula {
     pub clauses: Items<Clause>,
 }
 
-/// What is to be enumerated: a formula, the variables on which its models are projected, rising, and
-/// the given literals, a cube over these variables: models outside of it are not wanted.
+/// What is to be enumerated: a formula, the variables on which its models are projected, rising,
+/// and the given literals, a cube over these variables: models outside of it are not wanted.
 #[derive(Debug, Drop)]
 pub struct Subject {
     pub formula: Formula,

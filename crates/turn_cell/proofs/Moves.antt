@@ -13,7 +13,7 @@ use Rattle.atomic_table.specs.Table.{State, Me, step, Act, keeps, takes, gives, 
 use Rattle.atomic_table.proofs.Lists.{set_here, set_else, set_again, at_longer, at_snoc}
 use Rattle.turn_cell.specs.declared.rule.Claim.{Claim}
 use Rattle.turn_cell.specs.declared.rule.View.{View}
-use Rattle.turn_cell.specs.Rule.{total, as_number, claim_count, ticket_count, entries_of, IsTrueOf, new_claim, spent_view, first_view, FitsSeat, IsHome, IsLent, IsKept}
+use Rattle.turn_cell.specs.Rule.{total, as_number, claim_count, ticket_count, entries_of, IsTrueOf, new_claim, spent_view, first_view, FitsSeat, IsHome, IsLent, KeepsJournal}
 use Rattle.turn_cell.specs.Steps.{claim_after, claims_after, with_ticket, with_turn, with_journal, without_turn, with_next_number, new_view, with_claims, DrawsTicket, LooksForTurn, EntersJournal, PassesOn}
 use Rattle.std.specs.Prelude.{All, Contains}
 use Rattle.turn_cell.proofs.Lists.{Has, Has-from_Contains, Contains-from_Has, All-Has, All-from_Has, total_at, total_set, total_two, total_within, has_append, drop_added, one_same, one_other, claim_count_has, entries_all, entries_none}
@@ -73,14 +73,14 @@ module _ {T E F : Type 0} where
 
 module _ {T E F : Type 0} (journal : T → List E) (pass_of : E → ℕ) (fixed : T → F) (start : F) (passes : ℕ) where
   Rule : State (Option T) (View E F) → Type 0
-  Rule = IsKept journal pass_of fixed start passes
+  Rule = KeepsJournal journal pass_of fixed start passes
 
-  few_out : (s : State (Option T) (View E F)) (r : IsKept journal pass_of fixed start passes s) → r.out ≤ 64
+  few_out : (s : State (Option T) (View E F)) (r : KeepsJournal journal pass_of fixed start passes s) → r.out ≤ 64
   few_out s r = let h = total_within (λ (v : View E F). ticket_count v.ticket) (λ (v : View E F). length v.claims) s.views (λ i x e. held_within x.ticket (length x.claims) ((r.each i x e).seated)) in
       let a = r.queue.counted in let b = r.roll.all in let c = r.roll.within in let d = r.roll.few in omega arith
 
   -- nothing changes but the view, to one that makes the same claims and has the turn as before
-  module _ (s : State (Option T) (View E F)) (r : IsKept journal pass_of fixed start passes s) (id : ℕ) (v : View E F) (at : get_elem? s.views id ≡ some v) where
+  module _ (s : State (Option T) (View E F)) (r : KeepsJournal journal pass_of fixed start passes s) (id : ℕ) (v : View E F) (at : get_elem? s.views id ≡ some v) where
     place_set : (w : View E F) → w.turn ≡ v.turn → IsHome journal pass_of fixed r.home r.present start ⊎ IsLent r.home (set s.views id w)
     place_set w same = ⊎_elim (λ (h : IsHome journal pass_of fixed r.home r.present start). inl h) (λ (l : IsLent r.home s.views). inr (lent_set r.home s.views id v w at same l)) r.place
 
@@ -88,12 +88,12 @@ module _ {T E F : Type 0} (journal : T → List E) (pass_of : E → ℕ) (fixed 
     only_turn : v.ticket ≡ Some r.served → (j : ℕ) (u : View E F) → get_elem? s.views j ≡ some u → u.turn ≡ true → j ≡ id
     only_turn mine j u e turn = r.queue.apart j id r.served u v e at ((r.each j u e).lent turn).ticket mine
 
-    pub unmoved : (i : ℕ) → IsKept journal pass_of fixed start passes record { words = set s.words i (get_or s.words i 0); homes = s.homes; views = set s.views id v }
-    unmoved i = subst (λ (x : List ℕ × List (View E F)). IsKept journal pass_of fixed start passes record { words = x.0; homes = s.homes; views = x.1 })
+    pub unmoved : (i : ℕ) → KeepsJournal journal pass_of fixed start passes record { words = set s.words i (get_or s.words i 0); homes = s.homes; views = set s.views id v }
+    unmoved i = subst (λ (x : List ℕ × List (View E F)). KeepsJournal journal pass_of fixed start passes record { words = x.0; homes = s.homes; views = x.1 })
         (λ k. (sym (set-get_or s.words i 0) k, sym (set_again s.views id v at) k)) r
 
   pub draw_keeps : (slots id : ℕ) (m : Me (Option T) (View E F)) → m.0.ticket ≡ None → 0 < length m.0.claims
-      → Allows (IsKept journal pass_of fixed start passes) slots id m 0 (λ n. (n + 1) % 2 ^ 64) (DrawsTicket (step slots 0 1 0 none) m)
+      → Allows (KeepsJournal journal pass_of fixed start passes) slots id m 0 (λ n. (n + 1) % 2 ^ 64) (DrawsTicket (step slots 0 1 0 none) m)
   draw_keeps slots id m none_yet live s r deep at small =
       let t : ℕ = get_or s.words 0 0 in let w : View E F = with_ticket t m.0 in let few = few_out s r in
       let next : t ≡ (r.served + r.out) % 2 ^ 64 = ap (λ (ws : List ℕ). get_or ws 0 0) r.words in
@@ -122,7 +122,7 @@ module _ {T E F : Type 0} (journal : T → List E) (pass_of : E → ℕ) (fixed 
       )
 
   pub look_keeps : (slots id t : ℕ) (m : Me (Option T) (View E F)) → m.0.ticket ≡ Some t → m.0.turn ≡ false
-      → Allows (IsKept journal pass_of fixed start passes) slots id m 1 (λ n. n) (LooksForTurn journal pass_of fixed (step slots 1 0 0 none) m)
+      → Allows (KeepsJournal journal pass_of fixed start passes) slots id m 1 (λ n. n) (LooksForTurn journal pass_of fixed (step slots 1 0 0 none) m)
   look_keeps slots id t m drawn no_turn s r deep at small =
       let n : ℕ = get_or s.words 1 0 in let found : n ≡ r.served = ap (λ (ws : List ℕ). get_or ws 1 0) r.words in let old = r.each id m.0 at in
       dite (ℕ_discrete n t)
@@ -176,7 +176,7 @@ module _ {T E F : Type 0} (journal : T → List E) (pass_of : E → ℕ) (fixed 
       ))
 
   -- a number of a claim is one that was made, and is no other claim's
-  module _ (s : State (Option T) (View E F)) (r : IsKept journal pass_of fixed start passes s) (id : ℕ) (v : View E F) (at : get_elem? s.views id ≡ some v) (c : Claim E) (claims : Has c v.claims) where
+  module _ (s : State (Option T) (View E F)) (r : KeepsJournal journal pass_of fixed start passes s) (id : ℕ) (v : View E F) (at : get_elem? s.views id ≡ some v) (c : Claim E) (claims : Has c v.claims) where
     number_made : c.pass < r.made
     number_made = dite (dec_lt c.pass r.made) (λ lt. lt) (λ no. let z = r.roll.never c.pass (omega arith) in let a = total_at (λ (u : View E F). claim_count c.pass u.claims) s.views id v at in
         let b = claim_count_has c v.claims claims in absurd (omega arith))
@@ -187,7 +187,7 @@ module _ {T E F : Type 0} (journal : T → List E) (pass_of : E → ℕ) (fixed 
 
   pub enter_keeps : (slots id k : ℕ) (m : Me (Option T) (View E F)) (y : T) (added : List E) (c : Claim E) → m.0.turn ≡ true → m.0.claims ≡ c ∷ [] → m.1 ≡ (0, Some y) ∷ []
       → journal y ≡ m.0.found ++ added → length (journal y) < 2 ^ 64 → length added ≡ k → All (λ e. pass_of e ≡ c.pass) added
-      → Allows (IsKept journal pass_of fixed start passes) slots id m 2 (λ n. (n + k) % 2 ^ 64) (EntersJournal journal (step slots 2 k 0 none) m)
+      → Allows (KeepsJournal journal pass_of fixed start passes) slots id m 2 (λ n. (n + k) % 2 ^ 64) (EntersJournal journal (step slots 2 k 0 none) m)
   enter_keeps slots id k m y added c turn one_claim carried grows fits counted all_numbers s r deep at small =
       let numbers : (e : E) → Has e added → pass_of e ≡ c.pass = All-Has (λ e. pass_of e ≡ c.pass) added all_numbers in
       let v : View E F = m.0 in let old = r.each id v at in let mine = old.lent turn in let w : View E F = with_journal (journal y) v in
@@ -242,7 +242,7 @@ module _ {T E F : Type 0} (journal : T → List E) (pass_of : E → ℕ) (fixed 
       )
 
   pub pass_on_keeps : (slots id : ℕ) (m : Me (Option T) (View E F)) (y : T) → m.0.turn ≡ true → 0 < length m.0.claims → m.1 ≡ (0, Some y) ∷ [] → journal y ≡ m.0.found → Some (fixed y) ≡ m.0.fixed
-      → Allows (IsKept journal pass_of fixed start passes) slots id m 1 (λ n. (n + 1) % 2 ^ 64) (PassesOn (step slots 1 1 0 none) m)
+      → Allows (KeepsJournal journal pass_of fixed start passes) slots id m 1 (λ n. (n + 1) % 2 ^ 64) (PassesOn (step slots 1 1 0 none) m)
   pass_on_keeps slots id m y turn live carried whole same s r deep at small =
       let v : View E F = m.0 in let old = r.each id v at in let mine = old.lent turn in let w : View E F = without_turn v in
       let n : ℕ = get_or s.words 1 0 in let found : n ≡ r.served = ap (λ (ws : List ℕ). get_or ws 1 0) r.words in
@@ -273,11 +273,11 @@ module _ {T E F : Type 0} (journal : T → List E) (pass_of : E → ℕ) (fixed 
         ap (λ (cs : List (ℕ × Option T)). (w, Rattle.atomic_table.specs.Table.rest cs)) carried,
       )
 
-  pub split_keeps : (id : ℕ) (v : View E F) → id ≡ 0 → 0 < length v.claims → v.made < passes → Splits (IsKept journal pass_of fixed start passes) id v (with_next_number v) (new_view v)
+  pub split_keeps : (id : ℕ) (v : View E F) → id ≡ 0 → 0 < length v.claims → v.made < passes → Splits (KeepsJournal journal pass_of fixed start passes) id v (with_next_number v) (new_view v)
   split_keeps id v first live room s r at =
       let at0 : get_elem? s.views 0 ≡ some v = ap (get_elem? s.views) (sym first) ∙ at in let now : v.made ≡ r.made = r.roll.first v at0 live in let old = r.each id v at in
       let next : State (Option T) (View E F) = record { words = s.words; homes = s.homes; views = set s.views 0 (with_next_number v) ++ new_view v ∷ [] } in
-      let kept : IsKept journal pass_of fixed start passes next = record {
+      let kept : KeepsJournal journal pass_of fixed start passes next = record {
         served = r.served;
         out = r.out;
         made = r.made + 1;
@@ -310,9 +310,9 @@ module _ {T E F : Type 0} (journal : T → List E) (pass_of : E → ℕ) (fixed 
         roll = roll_split r.made passes s.views r.roll v at0 live room;
         entered = All-from_Has (λ e. pass_of e < r.made + 1) r.present (λ e h. let lt = All-Has (λ z. pass_of z < r.made) r.present r.entered e h in omega arith);
       } in
-      subst (λ (i : ℕ). IsKept journal pass_of fixed start passes record { words = s.words; homes = s.homes; views = set s.views i (with_next_number v) ++ new_view v ∷ [] }) (sym first) kept
+      subst (λ (i : ℕ). KeepsJournal journal pass_of fixed start passes record { words = s.words; homes = s.homes; views = set s.views i (with_next_number v) ++ new_view v ∷ [] }) (sym first) kept
 
-  pub join_keeps : (id other : ℕ) (v w : View E F) → 0 < length v.claims → w.ticket ≡ None → w.turn ≡ false → Joins (IsKept journal pass_of fixed start passes) id v other w (with_claims v w) spent_view
+  pub join_keeps : (id other : ℕ) (v w : View E F) → 0 < length v.claims → w.ticket ≡ None → w.turn ≡ false → Joins (KeepsJournal journal pass_of fixed start passes) id v other w (with_claims v w) spent_view
   join_keeps id other v w live no_ticket no_turn s r at apart at_w =
       let b : View E F = with_claims v w in let old = r.each id v at in let first = set s.views id b in
       let own_at : get_elem? s.views other ≡ some w = sym (set_else s.views id other b apart) ∙ at_w in let old_w = r.each other w own_at in record {
@@ -339,7 +339,7 @@ module _ {T E F : Type 0} (journal : T → List E) (pass_of : E → ℕ) (fixed 
         entered = r.entered;
       }
 
-  pub opening_kept : (x : T) → journal x ≡ [] → fixed x ≡ start → 1 ≤ passes → passes ≤ 64 → IsKept journal pass_of fixed start passes (opening (0 ∷ 0 ∷ 0 ∷ []) (Some x ∷ []) (first_view start))
+  pub opening_kept : (x : T) → journal x ≡ [] → fixed x ≡ start → 1 ≤ passes → passes ≤ 64 → KeepsJournal journal pass_of fixed start passes (opening (0 ∷ 0 ∷ 0 ∷ []) (Some x ∷ []) (first_view start))
   opening_kept x none_yet same some_pass few = record {
     served = 0;
     out = 0;
@@ -383,9 +383,9 @@ module _ {T E F : Type 0} (journal : T → List E) (pass_of : E → ℕ) (fixed 
   -- The seat that took over every pass, with no turn, finds the value at home: it knows the journal
   -- of each pass, and every entry is of one of them.
   pub closing_known : (id : ℕ) (v : View E F) (words : List ℕ) (slots : List (Option T)) → length v.claims ≡ passes → v.turn ≡ false
-      → Final (Seen (IsKept journal pass_of fixed start passes) id v) words slots → (x : T) × KnowsAll v slots x
+      → Final (Seen (KeepsJournal journal pass_of fixed start passes) id v) words slots → (x : T) × KnowsAll v slots x
   closing_known id v words slots all no_turn final =
-      let s : State (Option T) (View E F) = final.0 in let r : IsKept journal pass_of fixed start passes s = final.1.0 in let at : get_elem? s.views id ≡ some v = final.1.1 in let old = r.each id v at in
+      let s : State (Option T) (View E F) = final.0 in let r : KeepsJournal journal pass_of fixed start passes s = final.1.0 in let at : get_elem? s.views id ≡ some v = final.1.1 in let old = r.each id v at in
       let sum = r.roll.all in let few = r.roll.within in
       let alone : (j : ℕ) (u : View E F) → j ≢ id → get_elem? s.views j ≡ some u → length u.claims ≡ 0 = λ j u other e. let two = total_two (λ (z : View E F). length z.claims) s.views j id u v e at other in omega arith in
       let home : IsHome journal pass_of fixed r.home r.present start = ⊎_elim (λ (h : IsHome journal pass_of fixed r.home r.present start). h)

@@ -7,14 +7,14 @@ use Rattle.atomic_table.specs.declared.shared.Seat.{Seat}
 use Rattle.turn_cell.specs.declared.rule.Claim.{Claim}
 use Rattle.turn_cell.specs.declared.rule.View.{View}
 use Rattle.turn_cell.specs.Rule.{entries_of}
-use Rattle.turn_cell.specs.Steps.{claim_after, claims_after, first_claim, with_ticket, with_turn, with_journal, without_turn, Suits, HasGrown, HasStarted}
+use Rattle.turn_cell.specs.Steps.{claim_after, claims_after, first_claim, with_ticket, with_turn, with_journal, without_turn, Suits, HasGrown, HasEntered}
 use Rattle.turn_cell.specs.Passes.{CellView, PassView, IsPassOf, IsDue, IsEntered, HasSeen}
-use Rattle.turn_cell.specs.Idle.{claim_of, pass_view, IsIdle}
+use Rattle.turn_cell.specs.Idle.{claim_of, pass_view, IsIdleSeat}
 use Rattle.turn_cell.proofs.Lists.{Contains-from_Has, Has, All-Has, drop_added, entries_all}
 
 -- the pass p of the number n, with this seat, is idle before its turn
 module _ {T E F : Type 0} (journal : T → List E) (pass_of : E → ℕ) (fixed : T → F) (cell : CellView F) (n : ℕ) (seat : Seat (Option T) (View E F)) (p : PassView E F)
-    (view_is : pass_view n seat ≡ p) (idle : IsIdle pass_of n seat) (mine : IsPassOf cell p) where
+    (view_is : pass_view n seat ≡ p) (idle : IsIdleSeat pass_of n seat) (mine : IsPassOf cell p) where
   pub number_is : n ≡ p.number
   number_is = ap (λ (q : PassView E F). q.number) view_is
 
@@ -35,7 +35,7 @@ module _ {T E F : Type 0} (journal : T → List E) (pass_of : E → ℕ) (fixed 
 
   -- the turn found x and left y; lent is the seat in between, and after the seat at its end
   module _ (x y : T) (due : IsDue journal pass_of fixed cell p x) (entered : IsEntered journal pass_of fixed p.number x y)
-      (lent : Me (Option T) (View E F)) (begun : HasStarted journal x seat.me lent) where
+      (lent : Me (Option T) (View E F)) (begun : HasEntered journal x seat.me lent) where
     counted : (k : ℕ) → length (journal y) ≡ length (journal x) + k → length entered.added ≡ k
     counted k sum = let longer = ap length entered.grows in let whole = length-append (journal x) entered.added in omega arith
 
@@ -78,7 +78,7 @@ module _ {T E F : Type 0} (journal : T → List E) (pass_of : E → ℕ) (fixed 
       own_entries = (λ i. sym due.own i ++ sym (entries_all pass_of p.number entered.added (All-Has (λ e. pass_of e ≡ p.number) entered.added entered.number)) i)
           ∙ (sym (filter-append (λ e. pass_of e == p.number) (journal x) entered.added) ∙ ap (entries_of pass_of p.number) (sym entered.grows))
 
-      pub idle_after : IsIdle pass_of n after
+      pub idle_after : IsIdleSeat pass_of n after
       idle_after = record {
         holds_nothing = ap (λ (m : Me (Option T) (View E F)). m.1) ended;
         no_ticket = ap (λ (m : Me (Option T) (View E F)). m.0.ticket) ended;

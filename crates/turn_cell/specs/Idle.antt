@@ -23,7 +23,7 @@ module _ {T E F : Type 0} where
   }
 
   -- the seat of the pass n has no slot, no ticket and no turn, and makes one claim
-  pub record IsIdle (pass_of : E → ℕ) (n : ℕ) (seat : Seat (Option T) (View E F)) : Type 0 where
+  pub record IsIdleSeat (pass_of : E → ℕ) (n : ℕ) (seat : Seat (Option T) (View E F)) : Type 0 where
     pub holds_nothing : seat.me.1 ≡ []
     pub no_ticket : seat.me.0.ticket ≡ None
     pub no_turn : seat.me.0.turn ≡ false

@@ -125,7 +125,7 @@ module _ {T E F : Type 0} (journal : T → List E) (pass_of : E → ℕ) (fixed 
 
   -- The present list is what the seat with the turn has found, and the journal of the value at home
   -- where no seat has the turn.
-  pub record IsKept (start : F) (passes : ℕ) (s : State (Option T) (View E F)) : Type 0 where
+  pub record KeepsJournal (start : F) (passes : ℕ) (s : State (Option T) (View E F)) : Type 0 where
     pub served : ℕ
     pub out : ℕ
     pub made : ℕ

@@ -115,7 +115,7 @@ module _ {T E F : Type 0} where
 
 module _ {T E F : Type 0} (journal : T → List E) where
   -- the seat has a ticket and the turn, and the value that it found is out of the slot
-  pub record HasStarted (found : T) (m m' : Me (Option T) (View E F)) : Type 0 where
+  pub record HasEntered (found : T) (m m' : Me (Option T) (View E F)) : Type 0 where
     pub ticket : ℕ
     pub now : m' ≡ (with_turn (journal found) (with_ticket ticket m.0), (0, None) ∷ [])
 

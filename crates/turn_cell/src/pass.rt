@@ -15,17 +15,17 @@ pub struct Pass<T: Journalled> {
 
 impl<T: Journalled> Model for Pass<T> {
     ghost use Rattle.turn_cell.specs.Passes.{PassView};
-    ghost use Rattle.turn_cell.specs.Idle.{pass_view, IsIdle};
+    ghost use Rattle.turn_cell.specs.Idle.{pass_view, IsIdleSeat};
 
     ghost Value = { PassView T.Entry T.Fixed };
 
     ghost view = { λ p. pass_view p.number p.seat };
 
-    ghost invariant = { λ p. IsIdle T.pass_of p.number p.seat };
+    ghost invariant = { λ p. IsIdleSeat T.pass_of p.number p.seat };
 }
 
 impl<T: Journalled> Pass<T> {
-    ghost use Rattle.turn_cell.specs.Idle.{pass_view, IsIdle};
+    ghost use Rattle.turn_cell.specs.Idle.{pass_view, IsIdleSeat};
 
     /// A pass keeps its number. Its own entries are those of its number in what it has seen.
     pub fn number(&self) -> u32
@@ -37,7 +37,7 @@ impl<T: Journalled> Pass<T> {
 
     /// The seat that it takes its turns with.
     pub(crate) fn into_seat(self) -> Place<T>
-        ensures idle { IsIdle T.pass_of self.number result }
+        ensures idle { IsIdleSeat T.pass_of self.number result }
         ensures same { pass_view self.number result ≡ self }
     {
         let Self { number: _, seat } = self;

@@ -47,10 +47,10 @@ impl<T> Drop for Start<T> {
 pub struct Turns;
 
 impl<T: Journalled> TableRule<Option<T>, View<T::Entry, T::Fixed>, Start<T>> for Turns {
-    ghost use Rattle.turn_cell.specs.Rule.{IsKept, first_view};
+    ghost use Rattle.turn_cell.specs.Rule.{KeepsJournal, first_view};
 
     ghost holds = { λ key.
-        IsKept T.journal T.pass_of T.fixed (T.fixed key.value.value) key.passes };
+        KeepsJournal T.journal T.pass_of T.fixed (T.fixed key.value.value) key.passes };
 
     ghost first = { λ key. first_view (T.fixed key.value.value) };
 }

@@ -1,7 +1,7 @@
 //! The steps of a turn, each with what it makes of the seat. What is told about the value found and
 //! the value left stands in the contracts.
 ghost use Rattle.std.specs.Prelude.{◌≡◌, ℕ, ◌<◌, [], ◌∷◌, length, Some, None, true, false};
-ghost use Rattle.turn_cell.specs.Steps.{IsSized, IsSameSeat, first_claim, with_ticket, with_journal, without_turn, with_next_number, new_view, with_claims, Suits, TakesTurn, HasGrown, HoldsValue, HoldsGrown, HoldsKnown, HasStarted};
+ghost use Rattle.turn_cell.specs.Steps.{IsSized, IsSameSeat, first_claim, with_ticket, with_journal, without_turn, with_next_number, new_view, with_claims, Suits, TakesTurn, HasGrown, HoldsValue, HoldsGrown, HoldsKnown, HasEntered};
 
 use crate::journal::Journalled;
 use crate::rule::{Board, Draw, Enter, Gather, Look, Part, PassOn, Place};
@@ -17,7 +17,7 @@ pub(crate) fn start_turn<T: Journalled, R: Wait>(rt: &R, board: &Board<T>, seat:
     requires live { 0 < length seat.old.me.0.claims }
     requires holds_nothing { seat.old.me.1 ≡ [] }
     ensures seat { IsSameSeat seat.old seat.new }
-    ensures turn { HasStarted T.journal result seat.old.me seat.new.me }
+    ensures turn { HasEntered T.journal result seat.old.me seat.new.me }
     ensures suits { Suits T.journal T.pass_of T.fixed seat.old.me.0 result }
 {
     let ticket = draw(board, seat);

@@ -8,7 +8,7 @@ use Rattle.std.proofs.lemmas.Bool.{eq-eqb, ne_eqb, cases_Bool}
 use Rattle.sat_terms.specs.CubeOrder.{key}
 use Rattle.watch_lists.specs.declared.nodes.Node.{Node}
 use Rattle.watch_lists.specs.Places.{has, first_or}
-use Rattle.watch_lists.specs.Nodes.{stop, idle, node_at, walk, lists_of, list_at, view_of}
+use Rattle.watch_lists.specs.Nodes.{stop, idle, node_at, walk, lists_of, list_at, lists_view}
 use Rattle.watch_lists.specs.Views.{ListsView, list_of, lit_of, Stands}
 use Rattle.watch_lists.specs.Linked.{IsList, IsLinked}
 use Rattle.watch_lists.proofs.Places.{differs, prev_has, next_has, has_later}
@@ -34,7 +34,7 @@ pub lit_is : (nodes : List Node) (n : ℕ) → get_or (map (λ m. m.lit) nodes) 
 lit_is nodes n = get_or-map (λ (m : Node). m.lit) nodes n idle
 
 -- a place that stands, in its node's words
-pub stands_at : (nodes : List Node) (heads : List ℕ) (n : ℕ) → Stands (view_of nodes heads) n →
+pub stands_at : (nodes : List Node) (heads : List ℕ) (n : ℕ) → Stands (lists_view nodes heads) n →
     has n (list_at nodes heads (key (node_at nodes n).lit)) ≡ true
 stands_at nodes heads n h = subst (λ l. has n (list_at nodes heads (key l)) ≡ true) (lit_is nodes n) h
 

@@ -7,7 +7,7 @@ use Rattle.sat_terms.specs.CubeOrder.{key}
 use Rattle.watch_lists.specs.declared.nodes.Node.{Node}
 use Rattle.watch_lists.specs.Places.{has, first_or, next_in, prev_in}
 use Rattle.watch_lists.specs.Views.{IsFree, pushed}
-use Rattle.watch_lists.specs.Nodes.{view_of, stop, idle, node_at, put_prev, lists_of, list_at}
+use Rattle.watch_lists.specs.Nodes.{lists_view, stop, idle, node_at, put_prev, lists_of, list_at}
 use Rattle.watch_lists.specs.Linked.{IsList, IsLinked}
 use Rattle.watch_lists.proofs.Places.{differs, prev_front, has_later}
 use Rattle.watch_lists.proofs.OneList.{set_at, set_field, prev_put, cond_ap}
@@ -15,7 +15,7 @@ use Rattle.watch_lists.proofs.AllLists.{lists_are, linked_is, count_is, lit_is, 
 
 record Goes (nodes : List Node) (heads : List ℕ) (x : ℕ) (l : ℤ) : Type 0 where
   linked : IsLinked nodes heads
-  idle : IsFree (view_of nodes heads) x
+  idle : IsFree (lists_view nodes heads) x
   inside : x < length nodes
   list : key l < length heads
 
@@ -151,9 +151,9 @@ fits nodes heads x l g j =
 
 pub record Enters (nodes : List Node) (heads : List ℕ) (x : ℕ) (l : ℤ) (after : List Node) (heads' : List ℕ) : Type 0 where
   pub linked : IsLinked after heads'
-  pub pushed : view_of after heads' ≡ pushed (view_of nodes heads) x l
+  pub pushed : lists_view after heads' ≡ pushed (lists_view nodes heads) x l
 
-enters : (nodes : List Node) (heads : List ℕ) (x : ℕ) (l : ℤ) → IsLinked nodes heads → IsFree (view_of nodes heads) x →
+enters : (nodes : List Node) (heads : List ℕ) (x : ℕ) (l : ℤ) → IsLinked nodes heads → IsFree (lists_view nodes heads) x →
     x < length nodes → key l < length heads →
     Enters nodes heads x l
     (put_prev (set nodes x (record { next = get_or heads (key l) stop; prev = stop; lit = l })) (get_or heads (key l) stop) x)
@@ -173,7 +173,7 @@ enters nodes heads x l linked free inside list =
     let places = length-map after (λ (m : Node). m.lit) ∙ long ∙ sym (length-map nodes (λ (m : Node). m.lit)) in
     record {
       linked = linked_is after heads' ys few (fits nodes heads x l g);
-      pushed = same_view (view_of after heads') (pushed (view_of nodes heads) x l)
+      pushed = same_view (lists_view after heads') (pushed (lists_view nodes heads) x l)
           (count ∙ sym (length-set ls k (x ∷ list_at nodes heads k)))
           (places ∙ sym (length-set ts x l))
           (λ j below. lists_are after heads' ys few (fits nodes heads x l g) j
@@ -184,7 +184,7 @@ enters nodes heads x l linked free inside list =
     }
 
 pub enters_from : (nodes : List Node) (heads : List ℕ) (x : ℕ) (l : ℤ) (k head : ℕ) (middle after : List Node) (heads' : List ℕ) →
-    IsLinked nodes heads → IsFree (view_of nodes heads) x → x < length nodes → key l < length heads →
+    IsLinked nodes heads → IsFree (lists_view nodes heads) x → x < length nodes → key l < length heads →
     k ≡ key l → head ≡ get_or heads (key l) stop →
     middle ≡ set nodes x (record { next = head; prev = stop; lit = l }) →
     after ≡ put_prev middle head x → heads' ≡ set heads k x → Enters nodes heads x l after heads'

@@ -9,7 +9,7 @@ use Rattle.sat_terms.specs.CubeOrder.{key}
 use Rattle.watch_lists.specs.declared.nodes.Node.{Node}
 use Rattle.watch_lists.specs.declared.watch.Watch.{Watch}
 use Rattle.watch_lists.specs.Places.{has, AreApart, first_or, next_in, delete}
-use Rattle.watch_lists.specs.Nodes.{stop, idle, node_at, view_of, lists_of, list_at}
+use Rattle.watch_lists.specs.Nodes.{stop, idle, node_at, lists_view, lists_of, list_at}
 use Rattle.watch_lists.specs.Views.{ListsView, list_of, lit_of, IsFree, IsPlaced, Stands, taken, pushed, moved, with_places, watched, head_of, follower}
 use Rattle.watch_lists.specs.Linked.{IsList, IsLinked}
 use Rattle.watch_lists.proofs.Places.{delete_gone, has_later}
@@ -44,7 +44,7 @@ free_pushed v m n l free other k =
 pub free_taken : (v : ListsView) (n : ℕ) → ((k : ℕ) → AreApart (list_of v k)) → IsFree (taken v n) n
 free_taken v n apart k = ap (λ xs. has n xs) (get_or-map (delete n) v.lists k []) ∙ delete_gone n (list_of v k) (apart k)
 
-pub placed_is : (nodes : List Node) (heads : List ℕ) → IsLinked nodes heads → IsPlaced (view_of nodes heads)
+pub placed_is : (nodes : List Node) (heads : List ℕ) → IsLinked nodes heads → IsPlaced (lists_view nodes heads)
 placed_is nodes heads linked = record {
   apart = λ k. (linked.lists k).apart;
   inside = λ k n h. subst (λ m. n < m) (sym (length-map nodes (λ (m : Node). m.lit))) ((linked.lists k).members n h).inside;
@@ -83,7 +83,7 @@ after_seen (x ∷ xs) n h out =
 -- more places change no list
 pub record Grows (nodes more : List Node) (heads : List ℕ) (m : ℕ) : Type 0 where
   pub linked : IsLinked more heads
-  pub grown : view_of more heads ≡ with_places m (view_of nodes heads)
+  pub grown : lists_view more heads ≡ with_places m (lists_view nodes heads)
 
 idle_lits : (k : ℕ) → map (λ (m : Node). m.lit) (replicate k idle) ≡ replicate k (pos 0)
 idle_lits zero = refl
@@ -118,7 +118,7 @@ grows nodes heads m linked room =
     } in
     record {
       linked = linked_is more heads ys few fit;
-      grown = same_view (view_of more heads) (with_places m (view_of nodes heads))
+      grown = same_view (lists_view more heads) (with_places m (lists_view nodes heads))
           (count_is more heads ∙ sym (count_is nodes heads))
           (ap (λ ts. length ts) lits)
           (λ k inside. lists_are more heads ys few fit k)
@@ -172,12 +172,12 @@ first_is nodes heads k head linked is =
     ap (λ n. cond (nat_eq n stop) None (Some (record { place = n }))) (is ∙ (linked.lists k).first)
     ∙ first_seen (list_at nodes heads k) (end_is_none nodes heads k linked)
 
-pub after_is : (nodes : List Node) (heads : List ℕ) (n : ℕ) (node : Node) → IsLinked nodes heads → Stands (view_of nodes heads) n →
+pub after_is : (nodes : List Node) (heads : List ℕ) (n : ℕ) (node : Node) → IsLinked nodes heads → Stands (lists_view nodes heads) n →
     node ≡ get_or nodes n node →
     cond (nat_eq node.next stop) None (Some (record { place = node.next }))
-    ≡ follower (list_at nodes heads (key (lit_of (view_of nodes heads) n))) n
+    ≡ follower (list_at nodes heads (key (lit_of (lists_view nodes heads) n))) n
 after_is nodes heads n node linked h is =
-    let k = key (lit_of (view_of nodes heads) n) in
+    let k = key (lit_of (lists_view nodes heads) n) in
     let m = (linked.lists k).members n h in
     let same : node ≡ node_at nodes n = is ∙ get_or_default nodes n node idle m.inside in
     ap (λ p. cond (nat_eq p stop) None (Some (record { place = p }))) (ap (λ x. x.next) same ∙ m.next)

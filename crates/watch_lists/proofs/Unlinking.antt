@@ -9,7 +9,7 @@ use Rattle.watch_lists.specs.declared.nodes.Node.{Node}
 use Rattle.watch_lists.specs.Places.{has, first_or, next_in, prev_in, delete}
 use Rattle.watch_lists.specs.Views.{Stands}
 use Rattle.watch_lists.specs.Views as views
-use Rattle.watch_lists.specs.Nodes.{view_of, stop, node_at, put_next, put_prev, put_head, lists_of, list_at}
+use Rattle.watch_lists.specs.Nodes.{lists_view, stop, node_at, put_next, put_prev, put_head, lists_of, list_at}
 use Rattle.watch_lists.specs.Linked.{IsList, IsLinked}
 use Rattle.watch_lists.proofs.Places.{differs, prev_has, next_has, delete_absent, delete_has, delete_gone, delete_apart, first_delete, next_delete, prev_delete}
 use Rattle.watch_lists.proofs.OneList.{set_field, next_put, prev_put}
@@ -158,7 +158,7 @@ taken nodes heads x linked h =
 
 pub record Leaves (nodes : List Node) (heads : List ℕ) (x : ℕ) (after : List Node) (heads' : List ℕ) : Type 0 where
   pub linked : IsLinked after heads'
-  pub taken : view_of after heads' ≡ views.taken (view_of nodes heads) x
+  pub taken : lists_view after heads' ≡ views.taken (lists_view nodes heads) x
 
 leaves : (nodes : List Node) (heads : List ℕ) (x : ℕ) → IsLinked nodes heads →
     has x (list_at nodes heads (key (node_at nodes x).lit)) ≡ true →
@@ -182,7 +182,7 @@ leaves nodes heads x linked h =
     ] in
     record {
       linked = linked_is after heads' ys few (fits nodes heads x k at next t);
-      taken = same_view (view_of after heads') (views.taken (view_of nodes heads) x)
+      taken = same_view (lists_view after heads') (views.taken (lists_view nodes heads) x)
           (count_is after heads' ∙ count ∙ sym (length-map (lists_of nodes heads) (delete x) ∙ count_is nodes heads))
           (length-map after (λ (m : Node). m.lit) ∙ long ∙ sym (length-map nodes (λ (m : Node). m.lit)))
           (λ j inside. lists_are after heads' ys few (fits nodes heads x k at next t) j ∙ sym (get_or-map (delete x) (lists_of nodes heads) j []))
@@ -190,7 +190,7 @@ leaves nodes heads x linked h =
     }
 
 pub leaves_from : (nodes : List Node) (heads : List ℕ) (x : ℕ) (node : Node) (k : ℕ) (middle after : List Node) (heads' : List ℕ) →
-    IsLinked nodes heads → Stands (view_of nodes heads) x →
+    IsLinked nodes heads → Stands (lists_view nodes heads) x →
     node ≡ node_at nodes x → k ≡ key node.lit →
     middle ≡ put_next nodes node.prev node.next → heads' ≡ put_head heads k node.prev node.next →
     after ≡ put_prev middle node.next node.prev → Leaves nodes heads x after heads'

@@ -40,5 +40,8 @@ lists_of nodes heads = map (walk nodes (length nodes)) heads
 abbrev pub list_at : List Node → List ℕ → ℕ → List ℕ
 list_at nodes heads k = slice_index_or (lists_of nodes heads) k []
 
-abbrev pub view_of : List Node → List ℕ → ListsView
-view_of nodes heads = record { lists = lists_of nodes heads; lits = map (λ node. node.lit) nodes }
+abbrev pub lists_view : List Node → List ℕ → ListsView
+lists_view nodes heads = record {
+  lists = lists_of nodes heads;
+  lits = map (λ node. node.lit) nodes;
+}

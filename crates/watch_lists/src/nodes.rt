@@ -2,7 +2,7 @@
 ghost use Rattle.std.specs.Prelude.{◌≡◌, ◌+◌, ◌-◌, ◌<◌, ◌≤◌, ◌++◌, length, replicate, IfOk, IfErr};
 ghost use Rattle.std.specs.List.{All};
 ghost use Rattle.sat_terms.specs.CubeOrder.{key};
-ghost use Rattle.watch_lists.specs.Nodes.{put_next, put_prev, put_head, stop, view_of, idle};
+ghost use Rattle.watch_lists.specs.Nodes.{put_next, put_prev, put_head, stop, lists_view, idle};
 ghost use Rattle.watch_lists.specs.Linked.{IsLinked};
 ghost use Rattle.watch_lists.specs.Views.{IsFree, Stands, taken, pushed, watched};
 
@@ -56,10 +56,10 @@ fn set_prev(nodes: &mut Vec<Node>, at: u32, prev: u32)
 /// Takes a place out of its list.
 pub(crate) fn unlink(nodes: &mut Vec<Node>, heads: &mut Vec<u32>, place: u32)
     requires linked { IsLinked nodes.old.items heads.old.items }
-    requires stands { Stands (view_of nodes.old.items heads.old.items) place }
+    requires stands { Stands (lists_view nodes.old.items heads.old.items) place }
     ensures linked { IsLinked nodes.new.items heads.new.items }
-    ensures taken { view_of nodes.new.items heads.new.items
-        ≡ taken (view_of nodes.old.items heads.old.items) place }
+    ensures taken { lists_view nodes.new.items heads.new.items
+        ≡ taken (lists_view nodes.old.items heads.old.items) place }
 {
     let node = nodes[place as usize];
     let list = place_of(node.lit);
@@ -72,10 +72,10 @@ pub(crate) fn push_front(nodes: &mut Vec<Node>, heads: &mut Vec<u32>, place: u32
     requires linked { IsLinked nodes.old.items heads.old.items }
     requires inside { place < length nodes.old.items }
     requires list { key lit < length heads.old.items }
-    requires free { IsFree (view_of nodes.old.items heads.old.items) place }
+    requires free { IsFree (lists_view nodes.old.items heads.old.items) place }
     ensures linked { IsLinked nodes.new.items heads.new.items }
-    ensures pushed { view_of nodes.new.items heads.new.items
-        ≡ pushed (view_of nodes.old.items heads.old.items) place lit }
+    ensures pushed { lists_view nodes.new.items heads.new.items
+        ≡ pushed (lists_view nodes.old.items heads.old.items) place lit }
 {
     let list = place_of(lit);
     let head = heads[list];
@@ -94,11 +94,11 @@ pub(crate) fn watch_first_two(nodes: &mut Vec<Node>, heads: &mut Vec<u32>, place
     requires linked { IsLinked nodes.old.items heads.old.items }
     requires inside { place + 1 < length nodes.old.items }
     requires listed { All (λ l. key l < length heads.old.items) lits.now }
-    requires first { IsFree (view_of nodes.old.items heads.old.items) place }
-    requires second { IsFree (view_of nodes.old.items heads.old.items) (place + 1) }
+    requires first { IsFree (lists_view nodes.old.items heads.old.items) place }
+    requires second { IsFree (lists_view nodes.old.items heads.old.items) (place + 1) }
     ensures linked { IsLinked nodes.new.items heads.new.items }
-    ensures watched { view_of nodes.new.items heads.new.items
-        ≡ watched (view_of nodes.old.items heads.old.items) place lits.now }
+    ensures watched { lists_view nodes.new.items heads.new.items
+        ≡ watched (lists_view nodes.old.items heads.old.items) place lits.now }
 {
     if lits.len() >= 2 {
         push_front(nodes, heads, place, lits[0]);

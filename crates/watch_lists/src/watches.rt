@@ -5,7 +5,7 @@ ghost use Rattle.std.specs.List.{All};
 ghost use Rattle.sat_terms.specs.CubeOrder.{key};
 ghost use Rattle.sat_terms.specs.Literals.{IsLiteralOf};
 ghost use Rattle.watch_lists.specs.Linked.{IsLinked};
-ghost use Rattle.watch_lists.specs.Nodes.{stop, view_of};
+ghost use Rattle.watch_lists.specs.Nodes.{stop, lists_view};
 ghost use Rattle.watch_lists.specs.Views.{IsPlaced, IsFree, Stands, list_of, lit_of, moved};
 ghost use Rattle.watch_lists.specs.Views.{partner, head_of, follower};
 ghost use Rattle.watch_lists.specs.Watching.{IsWatching, attached};
@@ -28,12 +28,12 @@ pub struct Watches {
 
 impl Model for Watches {
     ghost use Rattle.watch_lists.specs.Views.{ListsView};
-    ghost use Rattle.watch_lists.specs.Nodes.{view_of};
+    ghost use Rattle.watch_lists.specs.Nodes.{lists_view};
     ghost use Rattle.watch_lists.specs.Linked.{IsLinked};
 
     ghost Value = { ListsView };
 
-    ghost view = { λ w. view_of w.nodes.items w.heads.items };
+    ghost view = { λ w. lists_view w.nodes.items w.heads.items };
 
     ghost invariant = { λ w. IsLinked w.nodes.items w.heads.items };
 }
@@ -53,10 +53,10 @@ fn watch_at(place: u32) -> Option<Watch>
 fn watch_all(nodes: &mut Vec<Node>, heads: &mut Vec<u32>, arena: &Arena)
     requires linked { IsLinked nodes.old.items heads.old.items }
     requires places { 2 * length arena.now.clauses ≤ length nodes.old.items }
-    requires free { (n : ℕ) → IsFree (view_of nodes.old.items heads.old.items) n }
+    requires free { (n : ℕ) → IsFree (lists_view nodes.old.items heads.old.items) n }
     requires listed { All (All (λ l. key l < length heads.old.items)) arena.now.clauses }
     ensures linked { IsLinked nodes.new.items heads.new.items }
-    ensures watching { IsWatching (view_of nodes.new.items heads.new.items) arena.now.clauses }
+    ensures watching { IsWatching (lists_view nodes.new.items heads.new.items) arena.now.clauses }
     ensures places { length nodes.new.items ≡ length nodes.old.items }
     ensures count { length heads.new.items ≡ length heads.old.items }
 {
@@ -92,7 +92,8 @@ impl Watches {
             (slice_index_or arena.now.clauses id []) }
         ensures attached { IfOk result
             (λ _. self.new ≡ attached id (slice_index_or arena.now.clauses id []) self.old) }
-        ensures watching { IfOk result (λ _. IsWatching self.new (take (id + 1) arena.now.clauses)) }
+        ensures watching { IfOk result
+            (λ _. IsWatching self.new (take (id + 1) arena.now.clauses)) }
         ensures places { length self.old.lits ≤ length self.new.lits }
         ensures lists { length self.new.lists ≡ length self.old.lists }
         ensures unchanged { IfErr result (λ _. self.new ≡ self.old) }

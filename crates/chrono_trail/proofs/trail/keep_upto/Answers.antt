@@ -4,7 +4,7 @@ use Rattle.std.proofs.lemmas.List.{get_or-drop}
 use Rattle.std.proofs.lemmas.List.Filters.{FiltersInPlace, FiltersInPlace-more_no, FiltersInPlace-more_set}
 use Rattle.search_region.proofs.Back.{filter_all}
 use Rattle.chrono_trail.specs.declared.item.Item.{Item}
-use Rattle.chrono_trail.specs.Items.{upto}
+use Rattle.chrono_trail.specs.Items.{is_upto}
 use Rattle.chrono_trail.proofs.Kept.{stay_more, stay_past, stay_not, all_in_front}
 use Rattle.chrono_trail.proofs.trail.keep_upto.Goals as goal
 use Rattle.chrono_trail.proofs.trail.keep_upto.Goals.{then-item-level+then-at-seen, then-item-level+else-at-seen, else-item-level}
@@ -23,13 +23,13 @@ loop-at-init c =
     let seen : ℕ = c.args.seen in
     record {
       filters = record {
-        front = sym (filter_all (upto c.args.level) (take start items) c.requires.low);
+        front = sym (filter_all (is_upto c.args.level) (take start items) c.requires.low);
         rest = refl;
         behind = omega arith;
         within = c.requires.within;
         long = refl;
       };
-      marked = c.min-kept_seen.ensures ∙ all_in_front (upto c.args.level) start seen items c.requires.within c.requires.low;
+      marked = c.min-kept_seen.ensures ∙ all_in_front (is_upto c.args.level) start seen items c.requires.within c.requires.low;
       wide = refl;
     }
 
@@ -39,7 +39,7 @@ loop-at-preserved c =
     let item : Item = c.index-item.result.now in
     let at : ℕ = c.loop-at.at in
     let seen : ℕ = c.args.seen in
-    let p = upto c.args.level in
+    let p = is_upto c.args.level in
     let filters = c.loop-at.invariant.filters in
     let inside : at < length c.loop-at.items.items = search rules in
     let long : length c.loop-at.items.items ≡ length items = filters.long in

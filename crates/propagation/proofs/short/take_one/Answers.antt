@@ -3,7 +3,7 @@ use mir.Syntax.{w32}
 use mir.Val.{SFits}
 use Rattle.std.specs.List.{list_any}
 use Rattle.sat_terms.proofs.Machine.{nat_abs-bits, same_from_bits, bits_from_same}
-use Rattle.chrono_trail.specs.Items.{item_of, upto}
+use Rattle.chrono_trail.specs.Items.{item_of, is_upto}
 use Rattle.chrono_trail.specs.Clauses.{is_true, is_false, is_false_clause}
 use Rattle.chrono_trail.proofs.Clauses.{false_from_other}
 use Rattle.propagation.specs.Settled.{is_held}
@@ -63,4 +63,4 @@ returns-in-Some-3-clause-outcome c =
     let item_fits : SFits w32 c.in-Some.item.lit = search rules in
     let same : c.in-Some.item.lit ≡ lit = same_from_bits c.in-Some.item.lit lit item_fits fits c.if-item-lit.false in
     let low = c.if-item-gt0.false in
-    subst (λ xs. is_held items xs ≡ true) (sym alone ∙ clause_is) (any_sole (is_true (filter (upto 0) items)) lit (held_by items lit c.in-Some.item item_is same (omega arith)))
+    subst (λ xs. is_held items xs ≡ true) (sym alone ∙ clause_is) (any_sole (is_true (filter (is_upto 0) items)) lit (held_by items lit c.in-Some.item item_is same (omega arith)))

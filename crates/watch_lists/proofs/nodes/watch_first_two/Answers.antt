@@ -4,7 +4,7 @@ use Rattle.std.proofs.lemmas.Int.{to_z-of_z}
 use mir.Syntax.{w32}
 use mir.Val.{SFits}
 use Rattle.sat_terms.specs.CubeOrder.{key}
-use Rattle.watch_lists.specs.Nodes.{view_of}
+use Rattle.watch_lists.specs.Nodes.{lists_view}
 use Rattle.watch_lists.specs.Views.{IsFree}
 use Rattle.watch_lists.proofs.AllLists.{count_is}
 use Rattle.watch_lists.proofs.Seen.{free_pushed, pushed_count}
@@ -18,7 +18,7 @@ push_front-requires-then-lits-ge2-clause-list c =
     let nodes' = c.push_front.new.nodes.items in
     let heads' = c.push_front.new.heads.items in
     let same : length heads' ≡ length heads =
-    sym (count_is nodes' heads') ∙ pushed_count (view_of nodes heads) (view_of nodes' heads') c.args.place _ c.push_front.ensures.pushed ∙ count_is nodes heads in
+    sym (count_is nodes' heads') ∙ pushed_count (lists_view nodes heads) (lists_view nodes' heads') c.args.place _ c.push_front.ensures.pushed ∙ count_is nodes heads in
     let two = c.if-lits-ge2.true in
     let second = get_or c.args.lits.now 1 (pos 0) in
     let fits : SFits w32 second = search rules in
@@ -30,4 +30,4 @@ pub push_front-requires-then-lits-ge2-clause-free :
 push_front-requires-then-lits-ge2-clause-free c =
     let other : c.args.place + 1 ≢ c.args.place = omega arith in
     subst (λ w. IsFree w (c.args.place + 1)) (sym c.push_front.ensures.pushed)
-    (free_pushed (view_of c.args.nodes.now.items c.args.heads.now.items) (c.args.place + 1) c.args.place _ c.requires.second other)
+    (free_pushed (lists_view c.args.nodes.now.items c.args.heads.now.items) (c.args.place + 1) c.args.place _ c.requires.second other)

@@ -3,7 +3,7 @@ use Rattle.std.specs.List.{All}
 use Rattle.std.proofs.lemmas.List.{length-map}
 use Rattle.sat_terms.specs.CubeOrder.{key}
 use Rattle.watch_lists.specs.declared.nodes.Node.{Node}
-use Rattle.watch_lists.specs.Nodes.{view_of}
+use Rattle.watch_lists.specs.Nodes.{lists_view}
 use Rattle.watch_lists.specs.Views.{ListsView}
 use Rattle.watch_lists.proofs.AllLists.{count_is}
 use Rattle.watch_lists.proofs.Seen.{placed_is, watched_lits, watched_lists}
@@ -46,7 +46,7 @@ loop-id-preserved c =
     let heads = c.loop-id.heads.items in
     let nodes' = c.watch_first_two.new.nodes.items in
     let heads' = c.watch_first_two.new.heads.items in
-    let v = view_of nodes heads in
+    let v = lists_view nodes heads in
     let id = c.loop-id.id in
     let lits = c.lits.result.now in
     let below : c.loop-id.id < length c.args.arena.now.clauses = omega arith in
@@ -60,7 +60,7 @@ loop-id-preserved c =
           ∙ watched_lits v (2 * id) lits ∙ length-map nodes (λ (m : Node). m.lit) ∙ c.loop-id.invariant.long;
       count = sym (count_is nodes' heads') ∙ ap (λ (w : ListsView). length w.lists) c.watch_first_two.ensures.watched
           ∙ watched_lists v (2 * id) lits ∙ count;
-      upto = upto_next v (view_of nodes' heads') c.args.arena.now.clauses id lits c.loop-id.invariant.upto below
+      upto = upto_next v (lists_view nodes' heads') c.args.arena.now.clauses id lits c.loop-id.invariant.upto below
           c.lits.ensures.clause c.lits.ensures.once listed c.watch_first_two.ensures.watched;
     }
 
@@ -69,5 +69,5 @@ returns-clause-watching c =
     let nodes = c.loop-id.nodes.items in
     let heads = c.loop-id.heads.items in
     let all : c.loop-id.id ≡ length c.args.arena.now.clauses = omega arith in
-    upto_all (view_of nodes heads) c.args.arena.now.clauses (placed_is nodes heads c.loop-id.invariant.linked)
-    (subst (IsUpto (view_of nodes heads) c.args.arena.now.clauses) all c.loop-id.invariant.upto)
+    upto_all (lists_view nodes heads) c.args.arena.now.clauses (placed_is nodes heads c.loop-id.invariant.linked)
+    (subst (IsUpto (lists_view nodes heads) c.args.arena.now.clauses) all c.loop-id.invariant.upto)

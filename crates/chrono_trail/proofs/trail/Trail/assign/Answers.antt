@@ -4,7 +4,7 @@ use mir.Val.{SFits}
 use Rattle.std.proofs.lemmas.Int.{to_z-of_z}
 use Rattle.std.proofs.lemmas.Bool.{le-leb}
 use Rattle.chrono_trail.specs.declared.item.Item.{Item}
-use Rattle.chrono_trail.specs.Items.{item_of, is_decided, may_stand, level_after, decisions_from}
+use Rattle.chrono_trail.specs.Items.{item_of, is_decision, may_stand, level_after, decisions_from}
 use Rattle.chrono_trail.specs.Trails.{TrailView, IsKept}
 use Rattle.chrono_trail.proofs.Room.{room_for}
 use Rattle.chrono_trail.proofs.Tables.{kept_push}
@@ -32,7 +32,7 @@ invariant_of-self c =
     let stands : may_stand c.self.inside.level e ≡ true = rw c.requires.undecided (le-leb c.args.level c.self.inside.level low) in
     let after : level_after c.self.inside.level e ≡ c.self.inside.level = rw c.requires.undecided refl in
     let fits : SFits w32 c.args.lit = search rules in
-    let none : cond (is_decided c.args.kind) ((0 + length items) ∷ []) [] ≡ [] = rw c.requires.undecided refl in
+    let none : cond (is_decision c.args.kind) ((0 + length items) ∷ []) [] ≡ [] = rw c.requires.undecided refl in
     let stack : c.self.inside.decided.items ≡ decisions_from 0 (items ++ e ∷ []) = c.self.invariant.stack ∙ sym (decisions-push 0 items e ∙ ap (λ xs. decisions_from 0 items ++ xs) none ∙ append-nil (decisions_from 0 items)) in
     rw (c.put.ensures.items, c.put.ensures.given, to_z-of_z w32 c.args.lit fits)
     (subst (λ k. IsKept (items ++ e ∷ []) (set c.self.inside.given.items (nat_abs c.args.lit) (Some e)) c.self.inside.decided.items c.self.inside.seen k (vec_capacity c.put.new.items) (vec_capacity c.self.inside.decided)) after

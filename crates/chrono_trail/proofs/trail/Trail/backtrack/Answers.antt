@@ -2,7 +2,7 @@ use Rattle.std.proofs.Common.{◌≡◌, ℕ, ◌-◌, ◌+◌, ◌≤◌, List,
 use Rattle.std.specs.List.{list_all}
 use Rattle.std.proofs.lemmas.List.{take_rest}
 use Rattle.search_region.proofs.Back.{filter_all}
-use Rattle.chrono_trail.specs.Items.{upto, goes, depth_from, IsDecisionAt}
+use Rattle.chrono_trail.specs.Items.{is_upto, goes, depth_from, IsDecisionAt}
 use Rattle.chrono_trail.specs.declared.item.Item.{Item}
 use Rattle.chrono_trail.specs.Trails.{TrailView, IsKept, seen_back}
 use Rattle.chrono_trail.proofs.Back.{all_low, goes_after}
@@ -10,24 +10,24 @@ use Rattle.chrono_trail.proofs.Kept.{kept_back, kept_seen, seen_low, fewer_stay,
 use Rattle.chrono_trail.proofs.trail.Trail.backtrack.Goals as goal
 
 -- where no level goes, each item stays
-all_stay : {items : List Item} {given : List (Option Item)} {decided : List ℕ} {seen level wide deep : ℕ} → IsKept items given decided seen level wide deep → (k : ℕ) → k ≡ level → list_all (upto k) items ≡ true
+all_stay : {items : List Item} {given : List (Option Item)} {decided : List ℕ} {seen level wide deep : ℕ} → IsKept items given decided seen level wide deep → (k : ℕ) → k ≡ level → list_all (is_upto k) items ≡ true
 all_stay {items} kept k same = let current = kept.trail.current in all_low 0 k items kept.trail.stands (omega arith)
 
 pub returns-then-level-self-clause-items : goal.returns-then-level-self-clause-items
 returns-then-level-self-clause-items c =
     let items = c.self.inside.items.items in
-    sym (ap (λ (v : TrailView). filter (upto c.args.level) v.items) (sym c.self.view_is)
-    ∙ filter_all (upto c.args.level) items (all_stay c.self.invariant c.args.level c.if-level-self.true))
+    sym (ap (λ (v : TrailView). filter (is_upto c.args.level) v.items) (sym c.self.view_is)
+    ∙ filter_all (is_upto c.args.level) items (all_stay c.self.invariant c.args.level c.if-level-self.true))
 
 pub returns-then-level-self-clause-seen : goal.returns-then-level-self-clause-seen
 returns-then-level-self-clause-seen c =
     let items = c.self.inside.items.items in
     let seen : ℕ = c.self.inside.seen in
-    let low = list_all_take (upto c.args.level) seen items (all_stay c.self.invariant c.args.level c.if-level-self.true) in
-    let stay : filter (upto c.args.level) (take seen items) ≡ take seen items = filter_all (upto c.args.level) (take seen items) low in
+    let low = list_all_take (is_upto c.args.level) seen items (all_stay c.self.invariant c.args.level c.if-level-self.true) in
+    let stay : filter (is_upto c.args.level) (take seen items) ≡ take seen items = filter_all (is_upto c.args.level) (take seen items) low in
     let marked = c.self.invariant.marked in
     let long = length-take seen items in
-    let count : seen ≡ length (filter (upto c.args.level) (take seen items)) = sym (ap length stay ∙ (omega arith)) in
+    let count : seen ≡ length (filter (is_upto c.args.level) (take seen items)) = sym (ap length stay ∙ (omega arith)) in
     c.seen_at-self-inside.ensures
     ∙ ap (λ n. cond (nat_eq c.args.level 0) 0 n) count
     ∙ ap (λ (v : TrailView). seen_back c.args.level v) c.self.view_is
@@ -56,9 +56,9 @@ invariant_of-self-2 c =
     let below : k ≤ c.self.inside.level = subst (λ (v : TrailView). k ≤ v.level) (sym c.self.view_is) c.requires in
     let decision : IsDecisionAt least items start = subst (λ xs. IsDecisionAt least xs start) c.as_slice.ensures.value c.place_of-start.ensures in
     let one : least - 1 ≡ k = omega arith in
-    let low : list_all (upto k) (take start items) ≡ true = subst (λ n. list_all (upto n) (take start items) ≡ true) one decision.low in
+    let low : list_all (is_upto k) (take start items) ≡ true = subst (λ n. list_all (is_upto n) (take start items) ≡ true) one decision.low in
     let same : take (length c.deref.result.now - start) (drop start c.deref.result.now) ≡ drop start items = take_rest c.deref.result.now start ∙ ap (drop start) c.deref.ensures.value in
-    let marked : c.seen_at-self-inside-2.result ≤ length (filter (upto k) items) = subst (λ n. n ≤ length (filter (upto k) items)) (sym (c.seen_at-self-inside-2.ensures ∙ ap (λ n. cond (nat_eq k 0) 0 n) c.keep_upto-kept.ensures.seen)) (seen_low k (length (filter (upto k) (take seen items))) (length (filter (upto k) items)) (fewer_stay (upto k) seen items)) in
+    let marked : c.seen_at-self-inside-2.result ≤ length (filter (is_upto k) items) = subst (λ n. n ≤ length (filter (is_upto k) items)) (sym (c.seen_at-self-inside-2.ensures ∙ ap (λ n. cond (nat_eq k 0) 0 n) c.keep_upto-kept.ensures.seen)) (seen_low k (length (filter (is_upto k) (take seen items))) (length (filter (is_upto k) items)) (fewer_stay (is_upto k) seen items)) in
     rw (c.keep_upto-kept.ensures.items, c.truncate.ensures.items)
     (kept_back items given c.free.new.given.items c.self.inside.decided.items seen c.seen_at-self-inside-2.result c.self.inside.level (vec_capacity c.self.inside.items) (vec_capacity c.self.inside.decided) (vec_capacity c.keep_upto-kept.new.items) (vec_capacity c.truncate.new.self) k c.self.invariant below c.free.ensures.length c.keep_upto-kept.ensures.capacity c.truncate.ensures.capacity
     (λ v. c.free.ensures.places v ∙ ap (λ b. cond b None (get_or given v None)) (ap (λ xs. goes least xs v) same ∙ goes_after k start items v low))

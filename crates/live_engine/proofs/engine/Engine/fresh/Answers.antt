@@ -1,5 +1,5 @@
 use Rattle.std.proofs.Common.{subst}
-use Rattle.live_engine.specs.Engines.{view_of}
+use Rattle.live_engine.specs.Engines.{engine_view}
 use Rattle.live_engine.specs.Lemmas.{TakesFresh}
 use Rattle.live_engine.proofs.Imported.{takes_fresh, fresh_engine}
 use Rattle.live_engine.proofs.engine.Engine.fresh.Goals as goal
@@ -10,5 +10,5 @@ invariant_of-self c = let e = c.self.inside in
 
 pub returns : goal.returns
 returns c = let e = c.self.inside in
-    subst (λ v. TakesFresh v (view_of e.subject.value c.next_unsent.new.self e.phase) c.next_unsent.result) c.self.view_is
+    subst (λ v. TakesFresh v (engine_view e.subject.value c.next_unsent.new.self e.phase) c.next_unsent.result) c.self.view_is
     (takes_fresh e.subject.value e.search c.next_unsent.new.self e.phase c.next_unsent.result c.next_unsent.ensures)

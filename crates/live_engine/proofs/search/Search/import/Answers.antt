@@ -3,7 +3,7 @@ use Rattle.std.specs.List.{All}
 use Rattle.sat_terms.specs.Literals.{IsLiteralOf}
 use Rattle.search_region.specs.Steady.{Follows}
 use Rattle.clause_arena.specs.Clauses.{HasDistinctVariables, has_room}
-use Rattle.live_engine.specs.Searching.{formula_of}
+use Rattle.live_engine.specs.Searching.{search_formula}
 use Rattle.live_engine.proofs.Negated.{imports_pair, imports_full, imports_kept, lemma_named, lemma_distinct, lemma_follows}
 use Rattle.live_engine.proofs.search.Search.import.Goals as goal
 
@@ -25,7 +25,7 @@ keep-requires-clause-distinct c =
 pub keep-requires-clause-follows : goal.keep-requires-clause-follows
 keep-requires-clause-follows c =
     let tells = c.in-Conflict.ensures.tells in
-    subst (Follows (formula_of c.try_negations.new.self)) (sym c.deref.ensures.value)
+    subst (Follows (search_formula c.try_negations.new.self)) (sym c.deref.ensures.value)
     (lemma_follows c.args.self.now c.requires.ground c.args.lits.now c.requires.named c.try_negations.new.self c.try_negations.ensures.rest tells.0 tells.1 c.try_negations.new.lemma.items (c.try_negations.ensures.lemma tells.0))
 
 pub returns-then-not-has_room-clause-imports : goal.returns-then-not-has_room-clause-imports

@@ -12,7 +12,7 @@ use Rattle.search_region.specs.Trail.{upto}
 use Rattle.search_region.specs.ReadCube.{read_cube}
 use Rattle.search_region.proofs.ReadCube.{read_cube_rises, read_cube_literals}
 use Rattle.chrono_trail.specs.Items.{item_of}
-use Rattle.live_engine.specs.Searching.{formula_of, pictured_trail}
+use Rattle.live_engine.specs.Searching.{search_formula, pictured_trail}
 use Rattle.live_engine.proofs.Looks.{steady_distinct, literal_upto, picked_item, cube_more}
 use Rattle.live_engine.proofs.search.Search.read_cube.Goals as goal
 use Rattle.live_engine.proofs.search.Search.read_cube.Goals.{in-Some+then-item-level, in-Some+else-item-level, in_default}
@@ -26,7 +26,7 @@ loop-variable-preserved c =
     let trail = pictured_trail s in
     let before = read_cube (upto c.args.level) trail (take i shown) in
     let lits = c.loop-variable.spare.items in
-    let distinct = steady_distinct (formula_of s) s.arena.clauses (is_among shown) items c.requires.searching.working.running.steady in
+    let distinct = steady_distinct (search_formula s) s.arena.clauses (is_among shown) items c.requires.searching.working.running.steady in
     let more = cube_more (upto c.args.level) trail shown i 0 (subst (λ p. i < length p) c.as_slice-variable-items.ensures.value c.loop-variable-test.true)
     ∙ ap (λ (o : Option ℤ). before ++ option_to_list o) (picked_item s.arena.clauses c.args.level items (get_or shown i 0) distinct) in
     let looked = c.item.ensures ∙ ap (λ p. item_of items (get_or p i 0)) c.as_slice-variable-items.ensures.value in

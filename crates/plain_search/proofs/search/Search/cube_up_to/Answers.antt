@@ -12,7 +12,7 @@ use Rattle.search_region.specs.Trail.{upto}
 use Rattle.search_region.specs.ReadCube.{read_cube}
 use Rattle.search_region.proofs.ReadCube.{read_cube_rises, read_cube_literals}
 use Rattle.chrono_trail.specs.Items.{item_of}
-use Rattle.plain_search.specs.Searching.{pictured_trail}
+use Rattle.plain_search.specs.Searching.{listed_trail}
 use Rattle.plain_search.proofs.Looks.{items_distinct, literal_upto, picked_item}
 use Rattle.plain_search.proofs.Looks.{cube_more}
 use Rattle.plain_search.proofs.search.Search.cube_up_to.Goals as goal
@@ -23,7 +23,7 @@ loop-variable-preserved c =
     let s = c.args.subject.now in
     let items = c.args.self.now.trail.items in
     let i : ℕ = c.loop-variable.variable-index in
-    let trail = pictured_trail s c.args.self.now in
+    let trail = listed_trail s c.args.self.now in
     let before = read_cube (upto c.args.level) trail (take i s.shown) in
     let lits = c.loop-variable.lits.items in
     let more = cube_more (upto c.args.level) trail s.shown i 0 (subst (λ p. i < length p) c.as_slice-variable-items.ensures c.loop-variable-test.true)
@@ -49,7 +49,7 @@ pub from_vec-requires : goal.from_vec-requires
 from_vec-requires c =
     let s = c.args.subject.now in
     let shown = c.requires.subject.shown in
-    let trail = pictured_trail s c.args.self.now in
+    let trail = listed_trail s c.args.self.now in
     let few = c.requires.subject.formula.variables in
     let past = subst (λ p. length p ≤ c.loop-variable.variable-index) c.as_slice-variable-items.ensures c.loop-variable-test.false in
     let whole = c.loop-variable.invariant ∙ ap (read_cube (upto c.args.level) trail) (take_all c.loop-variable.variable-index s.shown past) in

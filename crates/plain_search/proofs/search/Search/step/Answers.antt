@@ -4,7 +4,7 @@ use Rattle.search_region.specs.Work.{work}
 use Rattle.chrono_trail.specs.Trails.{TrailView}
 use Rattle.chrono_trail.specs.Clauses.{IsAtRest}
 use Rattle.chrono_trail.specs.Pictures.{picture_of}
-use Rattle.plain_search.specs.Searching.{left}
+use Rattle.plain_search.specs.Searching.{work_left}
 use Rattle.plain_search.specs.Steps.{RoundCameTo, FlipsOrEnds}
 use Rattle.plain_search.proofs.Looks.{full_is_model}
 use Rattle.plain_search.proofs.Moves.{conflict_advances, model_level, model_advances}
@@ -36,7 +36,7 @@ pub returns-in_ok-level-in-Quiet : goal.returns-in_ok-level-in-Quiet
 returns-in_ok-level-in-Quiet c =
     let s = c.args.subject.now in
     let full = c.if-decide.ensures in
-    let less = subst (λ (t : TrailView). work s.formula.variables (picture_of s.formula.clauses t.items) ≤ left s c.args.self.now)
+    let less = subst (λ (t : TrailView). work s.formula.variables (picture_of s.formula.clauses t.items) ≤ work_left s c.args.self.now)
     (sym full.trail) c.propagate.ensures.left in
     model_advances s c.decide.new.self c.shrink.new.self c.in_ok-level-in-Quiet.level full.searching
     c.in_ok-level-in-Quiet.ensures c.args.self.now c.flip-in-Quiet.new.self c.flip-in-Quiet.result less c.flip-in-Quiet.ensures

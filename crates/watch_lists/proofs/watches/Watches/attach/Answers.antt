@@ -5,7 +5,7 @@ use Rattle.std.proofs.lemmas.Grind.{take_at_read}
 use Rattle.sat_terms.specs.CubeOrder.{key}
 use Rattle.clause_arena.specs.Once.{HasEachOnce}
 use Rattle.watch_lists.specs.declared.nodes.Node.{Node}
-use Rattle.watch_lists.specs.Nodes.{view_of}
+use Rattle.watch_lists.specs.Nodes.{lists_view}
 use Rattle.watch_lists.specs.Views.{ListsView, IsFree, IsPlaced, watched, with_places}
 use Rattle.watch_lists.specs.Watching.{IsWatching, attached}
 use Rattle.watch_lists.proofs.AllLists.{count_is}
@@ -20,7 +20,7 @@ grows_it c = grows_from c.self.inside.nodes.items c.grow.new.nodes.items c.self.
 front_long : (c : goal.After-lits) → length (take c.args.id c.args.arena.now.clauses) ≡ c.args.id
 front_long c = let known = c.requires.known in let taken = length-take c.args.id c.args.arena.now.clauses in omega arith
 
-wide_is : (c : goal.After-lits) → view_of c.grow.new.nodes.items c.self.inside.heads.items ≡ with_places (2 * c.args.id + 2) c.args.self.now
+wide_is : (c : goal.After-lits) → lists_view c.grow.new.nodes.items c.self.inside.heads.items ≡ with_places (2 * c.args.id + 2) c.args.self.now
 wide_is c = (grows_it c).grown ∙ ap (with_places (2 * c.args.id + 2)) c.self.view_is
 
 pub watch_first_two-requires-clause-linked : goal.watch_first_two-requires-clause-linked
@@ -49,7 +49,7 @@ watch_first_two-requires-clause-second c =
     let long = front_long c in
     subst (λ v. IsFree v (2 * c.args.id + 1)) (sym (wide_is c)) (c.requires.watching.idle (2 * c.args.id + 1) (omega arith))
 
-attached_it : (c : goal.After-watch_first_two) → view_of c.watch_first_two.new.nodes.items c.watch_first_two.new.heads.items ≡ attached c.args.id (get_or c.args.arena.now.clauses c.args.id []) c.args.self.now
+attached_it : (c : goal.After-watch_first_two) → lists_view c.watch_first_two.new.nodes.items c.watch_first_two.new.heads.items ≡ attached c.args.id (get_or c.args.arena.now.clauses c.args.id []) c.args.self.now
 attached_it c =
     let g = grows_from c.self.inside.nodes.items c.grow.new.nodes.items c.self.inside.heads.items (2 * c.args.id + 2) c.self.invariant c.requires.few c.in_ok-grow.ensures.grown in
     c.watch_first_two.ensures.watched
@@ -64,7 +64,7 @@ returns-clause-watching c =
     let clauses = c.args.arena.now.clauses in
     let id : ℕ = c.args.id in
     let clause = get_or clauses id [] in
-    let new = view_of c.watch_first_two.new.nodes.items c.watch_first_two.new.heads.items in
+    let new = lists_view c.watch_first_two.new.nodes.items c.watch_first_two.new.heads.items in
     let known = c.requires.known in
     let taken = length-take id clauses in
     let long : length (take id clauses) ≡ id = omega arith in

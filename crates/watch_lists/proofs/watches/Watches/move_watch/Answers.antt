@@ -2,7 +2,7 @@ use Rattle.std.proofs.Common.{◌≡◌, ◌<◌, ap, sym, subst, ◌∙◌, len
 use Rattle.std.proofs.lemmas.List.{length-map}
 use Rattle.sat_terms.specs.CubeOrder.{key}
 use Rattle.watch_lists.specs.Places.{delete}
-use Rattle.watch_lists.specs.Nodes.{view_of, lists_of}
+use Rattle.watch_lists.specs.Nodes.{lists_view, lists_of}
 use Rattle.watch_lists.specs.Views.{ListsView, IsFree}
 use Rattle.watch_lists.proofs.AllLists.{count_is}
 use Rattle.watch_lists.proofs.Seen.{placed_is, free_taken, pushed_count}
@@ -23,14 +23,14 @@ push_front-requires-clause-list c =
 pub push_front-requires-clause-free : goal.push_front-requires-clause-free
 push_front-requires-clause-free c =
     subst (λ v. IsFree v c.args.watch.place) (sym c.unlink.ensures.taken)
-    (free_taken (view_of c.self.inside.nodes.items c.self.inside.heads.items) c.args.watch.place (λ k. (c.self.invariant.lists k).apart))
+    (free_taken (lists_view c.self.inside.nodes.items c.self.inside.heads.items) c.args.watch.place (λ k. (c.self.invariant.lists k).apart))
 
 pub returns-clause-placed : goal.returns-clause-placed
 returns-clause-placed c = placed_is c.push_front.new.nodes.items c.push_front.new.heads.items c.push_front.ensures.linked
 
 pub returns-clause-lists : goal.returns-clause-lists
 returns-clause-lists c =
-    pushed_count (view_of c.unlink.new.nodes.items c.unlink.new.heads.items) (view_of c.push_front.new.nodes.items c.push_front.new.heads.items) c.args.watch.place _ c.push_front.ensures.pushed
+    pushed_count (lists_view c.unlink.new.nodes.items c.unlink.new.heads.items) (lists_view c.push_front.new.nodes.items c.push_front.new.heads.items) c.args.watch.place _ c.push_front.ensures.pushed
     ∙ ap (λ (v : ListsView). length v.lists) c.unlink.ensures.taken
     ∙ length-map (lists_of c.self.inside.nodes.items c.self.inside.heads.items) (delete c.args.watch.place)
     ∙ ap (λ (v : ListsView). length v.lists) c.self.view_is
