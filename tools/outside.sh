@@ -73,9 +73,11 @@ for example in examples/*.cnf; do
     fi
 done
 if command -v python3 > /dev/null; then
+    tools/readme.py || wrong=1
+    tools/test_manual.py || wrong=1
     tools/test_checker.py || wrong=1
     tools/random_texts.py 300 || wrong=1
 else
-    echo 'skipped: no python3 here to check random texts'
+    echo 'skipped: no python3 here to run the commands of README and to check random texts'
 fi
 exit "$wrong"
