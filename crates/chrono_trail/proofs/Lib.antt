@@ -1,5 +1,6 @@
 pub mod Items
 pub mod Room
+pub mod Literals
 pub mod Tables
 pub mod Back
 pub mod Frees

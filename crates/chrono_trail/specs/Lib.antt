@@ -1,4 +1,5 @@
 pub mod Items
+pub mod Tables
 pub mod Trails
 pub mod Clauses
 pub mod Pictures

@@ -14,6 +14,7 @@
 mod clause;
 mod item;
 pub mod laws;
+mod table;
 mod trail;
 
 pub use clause::{Scanned, level_of_rest, scan};

@@ -9,6 +9,7 @@ ghost use Rattle.chrono_trail.specs.Items.{IsDecisionAt, IsAboveAt, HasPlace, go
 ghost use Rattle.chrono_trail.specs.Trails.{IsTrail, seen_back};
 
 use crate::item::{Item, Kind};
+use crate::table::ItemTable;
 use std::alloc::{AllocError, Global};
 use std::marker::Model;
 
@@ -16,7 +17,7 @@ use std::marker::Model;
 #[derive(Debug, Drop)]
 pub struct Trail {
     items: Vec<Item>,
-    given: Vec<Option<Item>>,
+    given: ItemTable,
     decided: Vec<u32>,
     level: u32,
     seen: usize,
@@ -29,13 +30,13 @@ impl Model for Trail {
     ghost Value = { TrailView };
 
     ghost view = { λ t. record {
-      variables = length t.given.items - 1;
+      variables = length t.given - 1;
       items = t.items.items;
       level = t.level;
       seen = t.seen;
     } };
 
-    ghost invariant = { λ t. IsKept t.items.items t.given.items t.decided.items t.seen t.level
+    ghost invariant = { λ t. IsKept t.items.items t.given t.decided.items t.seen t.level
         (vec_capacity t.items) (vec_capacity t.decided) };
 }
 
@@ -52,7 +53,7 @@ impl Trail {
         let places = variables as usize + 1;
         Ok(Trail {
             items: Vec::with_capacity(alloc, variables as usize)?,
-            given: vec![in alloc; None; places]?,
+            given: ItemTable::make(alloc, places)?,
             decided: Vec::with_capacity(alloc, variables as usize)?,
             level: 0,
             seen: 0,
@@ -81,10 +82,7 @@ impl Trail {
         requires { nat_abs lit ≤ self.now.variables }
         ensures { result ≡ value_in lit (item_of self.now.items (nat_abs lit)) }
     {
-        match self.given[lit.unsigned_abs() as usize] {
-            Some(item) => Some(item.lit == lit),
-            None => None,
-        }
+        self.given.value(lit)
     }
 
     /// The level of a variable; None where it is unassigned. It looks at one place.
@@ -103,7 +101,7 @@ impl Trail {
         requires { variable ≤ self.now.variables }
         ensures { result ≡ item_of self.now.items variable }
     {
-        self.given[variable as usize]
+        self.given.item(variable)
     }
 
     /// The place of the decision of a level among the items. It looks at one place.
@@ -215,15 +213,16 @@ impl Trail {
 }
 
 /// Appends an item, and puts it in its variable's place.
-fn put(items: &mut Vec<Item>, given: &mut Vec<Option<Item>>, item: Item)
+fn put(items: &mut Vec<Item>, given: &mut ItemTable, item: Item)
     requires room { length items.old.items < vec_capacity items.old }
-    requires place { nat_abs item.lit < length given.old.items }
+    requires named { 0 < nat_abs item.lit }
+    requires place { nat_abs item.lit < length given.old }
     ensures items { items.new.items ≡ items.old.items ++ item ∷ [] }
-    ensures given { given.new.items ≡ slice_set given.old.items (nat_abs item.lit) (Some item) }
+    ensures given { given.new ≡ slice_set given.old (nat_abs item.lit) (Some item) }
     ensures capacity { vec_capacity items.new ≡ vec_capacity items.old }
 {
     items.push_reserved(item);
-    given[item.lit.unsigned_abs() as usize] = Some(item);
+    given.set(item);
 }
 
 /// The place of the decision of a level. The stack tells it.
@@ -245,16 +244,16 @@ fn seen_at(level: u32, kept: usize) -> usize
 }
 
 /// Empties the places of those of the items whose level is at least `least`.
-fn free(given: &mut Vec<Option<Item>>, items: &[Item], least: u32)
-    requires small { length given.old.items ≤ 2 ^ 31 }
-    requires places { All (HasPlace (length given.old.items)) items.now }
-    ensures length { length given.new.items ≡ length given.old.items }
-    ensures places { (v : ℕ) → slice_index_or given.new.items v None
-        ≡ cond (goes least items.now v) None (slice_index_or given.old.items v None) }
+fn free(given: &mut ItemTable, items: &[Item], least: u32)
+    requires small { length given.old ≤ 2 ^ 31 }
+    requires places { All (HasPlace (length given.old)) items.now }
+    ensures length { length given.new ≡ length given.old }
+    ensures places { (v : ℕ) → slice_index_or given.new v None
+        ≡ cond (goes least items.now v) None (slice_index_or given.old v None) }
 {
     for item in items {
         if item.level >= least {
-            given[item.lit.unsigned_abs() as usize] = None;
+            given.empty(item.lit.unsigned_abs());
         }
     }
 }

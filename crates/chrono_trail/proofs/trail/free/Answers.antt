@@ -18,13 +18,13 @@ loop-item-preserved c =
     elim c.if-item-least.branch [
       | then-item-least w ↦
           let place = w.unsigned_abs.ensures.value ∙ nat_abs-bits (get_or items i nothing).lit fits in
-          rw w.given-is (record {
-            long = length-set c.loop-item.given.items w.unsigned_abs.result None ∙ c.loop-item.invariant.long;
-            places = freed c.args.least items c.args.given.now.items c.loop-item.given.items w.unsigned_abs.result i nothing inside place (c.requires.places i nothing inside) c.loop-item.invariant.long w.if-item-least.true c.loop-item.invariant.places;
+          rw (w.given-is, w.empty.ensures) (record {
+            long = length-set c.loop-item.given w.unsigned_abs.result None ∙ c.loop-item.invariant.long;
+            places = freed c.args.least items c.args.given.now c.loop-item.given w.unsigned_abs.result i nothing inside place (c.requires.places i nothing inside) c.loop-item.invariant.long w.if-item-least.true c.loop-item.invariant.places;
           })
       | else-item-least w ↦
           rw w.given-is (record {
             long = c.loop-item.invariant.long;
-            places = kept c.args.least items c.args.given.now.items c.loop-item.given.items i nothing inside w.if-item-least.false c.loop-item.invariant.places;
+            places = kept c.args.least items c.args.given.now c.loop-item.given i nothing inside w.if-item-least.false c.loop-item.invariant.places;
           })
     ]

@@ -14,7 +14,7 @@ use Rattle.chrono_trail.proofs.trail.Trail.assign.Goals as goal
 pub put-requires-clause-room : goal.put-requires-clause-room
 put-requires-clause-room c =
     let is = c.self.view_is in
-    let n = length c.self.inside.given.items - 1 in
+    let n = length c.self.inside.given - 1 in
     let below : nat_abs c.args.lit ≤ n = subst (λ (v : TrailView). nat_abs c.args.lit ≤ v.variables) (sym is) c.requires.within in
     let free = ap (λ (v : TrailView). item_of v.items (nat_abs c.args.lit)) is ∙ c.requires.unassigned in
     let short = room_for n c.self.inside.items.items c.self.inside.level (nat_abs c.args.lit) c.self.invariant.trail c.requires.named below free in
@@ -35,8 +35,8 @@ invariant_of-self c =
     let none : cond (is_decision c.args.kind) ((0 + length items) ∷ []) [] ≡ [] = rw c.requires.undecided refl in
     let stack : c.self.inside.decided.items ≡ decisions_from 0 (items ++ e ∷ []) = c.self.invariant.stack ∙ sym (decisions-push 0 items e ∙ ap (λ xs. decisions_from 0 items ++ xs) none ∙ append-nil (decisions_from 0 items)) in
     rw (c.put.ensures.items, c.put.ensures.given, to_z-of_z w32 c.args.lit fits)
-    (subst (λ k. IsKept (items ++ e ∷ []) (set c.self.inside.given.items (nat_abs c.args.lit) (Some e)) c.self.inside.decided.items c.self.inside.seen k (vec_capacity c.put.new.items) (vec_capacity c.self.inside.decided)) after
-    (kept_push items c.self.inside.given.items c.self.inside.decided.items c.self.inside.decided.items c.self.inside.seen c.self.inside.level (vec_capacity c.self.inside.items) (vec_capacity c.self.inside.decided) (vec_capacity c.put.new.items) (vec_capacity c.self.inside.decided) e c.self.invariant c.requires.named below free stands stack c.put.ensures.capacity refl))
+    (subst (λ k. IsKept (items ++ e ∷ []) (set c.self.inside.given (nat_abs c.args.lit) (Some e)) c.self.inside.decided.items c.self.inside.seen k (vec_capacity c.put.new.items) (vec_capacity c.self.inside.decided)) after
+    (kept_push items c.self.inside.given c.self.inside.decided.items c.self.inside.decided.items c.self.inside.seen c.self.inside.level (vec_capacity c.self.inside.items) (vec_capacity c.self.inside.decided) (vec_capacity c.put.new.items) (vec_capacity c.self.inside.decided) e c.self.invariant c.requires.named below free stands stack c.put.ensures.capacity refl))
 
 pub returns-clause-trail : goal.returns-clause-trail
 returns-clause-trail c = (invariant_of-self c).trail

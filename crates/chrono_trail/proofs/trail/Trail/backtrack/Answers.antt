@@ -48,7 +48,7 @@ invariant_of-self c =
 pub invariant_of-self-2 : goal.invariant_of-self-2
 invariant_of-self-2 c =
     let items = c.self.inside.items.items in
-    let given = c.self.inside.given.items in
+    let given = c.self.inside.given in
     let seen : ℕ = c.self.inside.seen in
     let start : ℕ = c.place_of-start.result in
     let k : ℕ = c.args.level in
@@ -60,7 +60,7 @@ invariant_of-self-2 c =
     let same : take (length c.deref.result.now - start) (drop start c.deref.result.now) ≡ drop start items = take_rest c.deref.result.now start ∙ ap (drop start) c.deref.ensures.value in
     let marked : c.seen_at-self-inside-2.result ≤ length (filter (is_upto k) items) = subst (λ n. n ≤ length (filter (is_upto k) items)) (sym (c.seen_at-self-inside-2.ensures ∙ ap (λ n. cond (nat_eq k 0) 0 n) c.keep_upto-kept.ensures.seen)) (seen_low k (length (filter (is_upto k) (take seen items))) (length (filter (is_upto k) items)) (fewer_stay (is_upto k) seen items)) in
     rw (c.keep_upto-kept.ensures.items, c.truncate.ensures.items)
-    (kept_back items given c.free.new.given.items c.self.inside.decided.items seen c.seen_at-self-inside-2.result c.self.inside.level (vec_capacity c.self.inside.items) (vec_capacity c.self.inside.decided) (vec_capacity c.keep_upto-kept.new.items) (vec_capacity c.truncate.new.self) k c.self.invariant below c.free.ensures.length c.keep_upto-kept.ensures.capacity c.truncate.ensures.capacity
+    (kept_back items given c.free.new.given c.self.inside.decided.items seen c.seen_at-self-inside-2.result c.self.inside.level (vec_capacity c.self.inside.items) (vec_capacity c.self.inside.decided) (vec_capacity c.keep_upto-kept.new.items) (vec_capacity c.truncate.new.self) k c.self.invariant below c.free.ensures.length c.keep_upto-kept.ensures.capacity c.truncate.ensures.capacity
     (λ v. c.free.ensures.places v ∙ ap (λ b. cond b None (get_or given v None)) (ap (λ xs. goes least xs v) same ∙ goes_after k start items v low))
     marked)
 

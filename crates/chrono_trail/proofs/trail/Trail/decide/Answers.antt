@@ -17,7 +17,7 @@ use Rattle.chrono_trail.proofs.trail.Trail.decide.Goals as goal
 pub put-requires-clause-room : goal.put-requires-clause-room
 put-requires-clause-room c =
     let is = c.self.view_is in
-    let n = length c.self.inside.given.items - 1 in
+    let n = length c.self.inside.given - 1 in
     let below : nat_abs c.args.lit ≤ n = subst (λ (v : TrailView). nat_abs c.args.lit ≤ v.variables) (sym is) c.requires.within in
     let free = ap (λ (v : TrailView). item_of v.items (nat_abs c.args.lit)) is ∙ c.requires.unassigned in
     let short = room_for n c.self.inside.items.items c.self.inside.level (nat_abs c.args.lit) c.self.invariant.trail c.requires.named below free in
@@ -27,7 +27,7 @@ put-requires-clause-room c =
 pub overflow_add-level : goal.overflow_add-level
 overflow_add-level c =
     let t = c.self.invariant.trail in
-    let many = items_bound (length c.self.inside.given.items - 1) c.self.inside.items.items c.self.inside.level t in
+    let many = items_bound (length c.self.inside.given - 1) c.self.inside.items.items c.self.inside.level t in
     let deep = depth_bound 0 c.self.inside.items.items t.stands in
     let small = t.small in
     let current = t.current in
@@ -35,7 +35,7 @@ overflow_add-level c =
 
 pub overflow_cast-place : goal.overflow_cast-place
 overflow_cast-place c =
-    let many = items_bound (length c.self.inside.given.items - 1) c.self.inside.items.items c.self.inside.level c.self.invariant.trail in
+    let many = items_bound (length c.self.inside.given - 1) c.self.inside.items.items c.self.inside.level c.self.invariant.trail in
     let small = c.self.invariant.trail.small in
     let long = c.self.inside.items.ok.0 in
     let place = c.len-place.ensures in
@@ -45,7 +45,7 @@ pub push_reserved-requires : goal.push_reserved-requires
 push_reserved-requires c =
     let is = c.self.view_is in
     let items = c.self.inside.items.items in
-    let n = length c.self.inside.given.items - 1 in
+    let n = length c.self.inside.given - 1 in
     let below : nat_abs c.args.lit ≤ n = subst (λ (v : TrailView). nat_abs c.args.lit ≤ v.variables) (sym is) c.requires.within in
     let free = ap (λ (v : TrailView). item_of v.items (nat_abs c.args.lit)) is ∙ c.requires.unassigned in
     let short = room_for n items c.self.inside.level (nat_abs c.args.lit) c.self.invariant.trail c.requires.named below free in
@@ -73,7 +73,7 @@ invariant_of-self c =
     ∙ ap (λ xs. xs ++ (0 + length items) ∷ []) c.self.invariant.stack
     ∙ sym (decisions-push 0 items e) in
     rw (c.put.ensures.items, c.put.ensures.given, to_z-of_z w32 c.args.lit fits)
-    (kept_push items c.self.inside.given.items decided c.push_reserved.new.self.items c.self.inside.seen c.self.inside.level (vec_capacity c.self.inside.items) (vec_capacity c.self.inside.decided) (vec_capacity c.put.new.items) (vec_capacity c.push_reserved.new.self) e c.self.invariant c.requires.named below free stands stack c.put.ensures.capacity c.push_reserved.ensures.capacity)
+    (kept_push items c.self.inside.given decided c.push_reserved.new.self.items c.self.inside.seen c.self.inside.level (vec_capacity c.self.inside.items) (vec_capacity c.self.inside.decided) (vec_capacity c.put.new.items) (vec_capacity c.push_reserved.new.self) e c.self.invariant c.requires.named below free stands stack c.put.ensures.capacity c.push_reserved.ensures.capacity)
 
 pub returns-clause-trail : goal.returns-clause-trail
 returns-clause-trail c = (invariant_of-self c).trail
