@@ -1,3 +1,4 @@
+mod Fronts
 pub mod Handing
 mod Telling
 mod Texts

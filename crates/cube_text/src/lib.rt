@@ -6,10 +6,12 @@
 
 mod buffered;
 pub mod laws;
+mod line_front;
 mod lines;
 mod listing;
 
 pub use buffered::Buffered;
+pub use line_front::shared_front;
 pub use lines::put_line;
 pub use listing::write_listing;
 
