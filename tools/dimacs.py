@@ -12,8 +12,10 @@ import re
 import sys
 from collections import namedtuple
 
-# The clauses are as written; the shown variables rise, and so do those of the given literals.
-Formula = namedtuple("Formula", "variables clauses shown under")
+# The clauses are as written; the shown variables rise, and so do those of the given literals. What
+# a saved text has besides is a Saved, two lists of cubes; of any other text it is None.
+Formula = namedtuple("Formula", "variables clauses shown under saved")
+Saved = namedtuple("Saved", "cubes pending")
 Limits = namedtuple("Limits", "bytes variables clauses literals shown")
 
 LIMITS = Limits(
@@ -41,6 +43,8 @@ NUMBERS = {
     "TooManyLiterals": 13,
     "TooManyShown": 14,
     "TextTooLong": 15,
+    "SavedBad": 16,
+    "SavedUnended": 17,
     "NotBuilt": 20,
     "UnderBad": 21,
     "UnderUnended": 22,
@@ -104,22 +108,17 @@ class Reader:
         self.shows = []  # for each show line its number and its variables
         self.given = []  # the literals of the under lines, each with the number of its line
         self.ended = False  # whether a line that begins with % came
+        self.saved = None  # of a saved text, its cube lines and open lines with their numbers
+        self.saved_ended = False  # whether its end line came
 
     def line(self, number, line):
         """Reads a line, or raises its refusal."""
         tokens = tokens_of(line)
-        if number == 1 and tokens[:3] in ([b"c", b"allsat", b"saved"], [b"c", b"allsat", b"met"]):
-            raise Refused("NotBuilt", 1)
         if self.ended or not tokens:
             return
         first = tokens[0][:1]
         if first == b"c":
-            if tokens[:3] == [b"c", b"p", b"show"]:
-                values = self.list_line(number, tokens[3:], "Show", 0)
-                self.shows.append((number, values))
-            elif tokens[:3] == [b"c", b"p", b"under"]:
-                values = self.list_line(number, tokens[3:], "Under", -MOST_NAMED_VARIABLE)
-                self.given += [(number, value) for value in values]
+            self.comment_line(number, tokens)
         elif first == b"p":
             self.header_line(number, tokens)
         elif self.header is None:
@@ -129,6 +128,38 @@ class Reader:
         else:
             for token in tokens:
                 self.clause_token(number, token)
+
+    def comment_line(self, number, tokens):
+        words = tokens[:3]
+        if words == [b"c", b"p", b"show"]:
+            self.shows.append((number, self.list_line(number, tokens[3:], "Show", 0)))
+        elif words == [b"c", b"p", b"under"]:
+            values = self.list_line(number, tokens[3:], "Under", -MOST_NAMED_VARIABLE)
+            self.given += [(number, value) for value in values]
+        elif number == 1 and words == [b"c", b"allsat", b"met"]:
+            raise Refused("NotBuilt", 1)
+        elif number == 1 and words == [b"c", b"allsat", b"saved"]:
+            if tokens[3:] not in ([b"1"], [b"2"]):
+                raise Refused("SavedBad", 1)
+            self.saved = Saved([], [])
+        elif self.saved is not None and words[:2] == [b"c", b"p"]:
+            self.saved_line(number, words[2:], tokens[3:])
+
+    def saved_line(self, number, word, tokens):
+        """A line that a saved text has of its own; any other comment line is passed over."""
+        if word not in ([b"cube"], [b"open"], [b"end"]):
+            return
+        if self.saved_ended or (word == [b"end"] and tokens):
+            raise Refused("SavedBad", number)
+        if word == [b"end"]:
+            self.saved_ended = True
+            return
+        literals = self.list_line(number, tokens, "Saved", -MOST_NAMED_VARIABLE, unended="Bad")
+        variables = [abs(literal) for literal in literals]
+        if any(before >= behind for before, behind in zip(variables, variables[1:])):
+            raise Refused("SavedBad", number)
+        kind = self.saved.cubes if word == [b"cube"] else self.saved.pending
+        kind.append((number, literals))
 
     def header_line(self, number, tokens):
         if self.header is not None:
@@ -161,7 +192,7 @@ class Reader:
         self.literals += 1
         self.clause.append(value)
 
-    def list_line(self, number, tokens, kind, least):
+    def list_line(self, number, tokens, kind, least, unended="Unended"):
         """The values up to the 0 that ends the line, none of them below the least."""
         values = []
         for place, token in enumerate(tokens):
@@ -173,7 +204,7 @@ class Reader:
                     raise Refused(kind + "Bad", number)
                 return values
             values.append(value)
-        raise Refused(kind + "Unended", number)
+        raise Refused(kind + unended, number)
 
     def under(self, shown):
         """The cube of the given literals, or raises the refusal of the first that is misplaced."""
@@ -184,12 +215,25 @@ class Reader:
             under.add(literal)
         return sorted(under, key=abs)
 
+    def saved_cubes(self, shown, under):
+        """What a saved text has besides, or raises the refusal of its lowest line that is not over
+        the shown variables, or lacks a given literal."""
+        if self.saved is None:
+            return None
+        shown, under = set(shown), set(under)
+        for number, literals in sorted(self.saved.cubes + self.saved.pending):
+            if not {abs(literal) for literal in literals} <= shown or not under <= set(literals):
+                raise Refused("SavedBad", number)
+        return Saved(*([literals for _, literals in lines] for lines in self.saved))
+
     def end(self, last):
         """The formula, after a last line with this number; or raises the refusal of the end."""
         if self.header is None:
             raise Refused("NoHeader", last)
         if self.clause:
             raise Refused("Unfinished", last)
+        if self.saved is not None and not self.saved_ended:
+            raise Refused("SavedUnended", last)
         variables, said = self.header
         if len(self.clauses) != said:
             raise Refused("ClauseCount", last, said, len(self.clauses))
@@ -201,7 +245,9 @@ class Reader:
             shown = sorted({variable for _, names in self.shows for variable in names})
         if len(shown) > self.limits.shown:
             raise Refused("TooManyShown", last)
-        return Formula(variables, self.clauses, list(shown), self.under(shown))
+        under = self.under(shown)
+        saved = self.saved_cubes(shown, under)
+        return Formula(variables, self.clauses, list(shown), under, saved)
 
 
 def read_or_raise(data, limits):

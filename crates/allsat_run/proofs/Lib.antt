@@ -1,3 +1,4 @@
+mod Fronts
 pub mod Ending
 pub mod NoteLemmas
 pub mod WordLemmas

@@ -1,15 +1,17 @@
 -- What a run answers, by what it took from its input and put into its output.
-use Rattle.std.specs.Prelude.{◌≡◌, ◌⊎◌, ℕ, true, Option, Some, Result, Ok, Err, List, [], ℤ}
+use Rattle.std.specs.Prelude.{◌≡◌, ◌⊎◌, ℕ, true, Option, Some, None, Result, Ok, Err, List, [], ℤ}
 use Rattle.fault_io.specs.Bytes.{Consumes, Appends}
 use Rattle.fault_io.specs.Faults.{Rose}
 use Rattle.fault_io.specs.Sources.{SourceView}
 use Rattle.fault_io.specs.Sinks.{SinkView, TakesBytes, TakesFront}
 use Rattle.sat_terms.specs.RightList.{IsRightList}
+use Rattle.checkpoint.specs.declared.saved.Saved.{Saved}
 use Rattle.cube_text.specs.Listing.{listing}
 use Rattle.dimacs_front.specs.Whole.{reads}
 use Rattle.dimacs_front.specs.Answers.{IsInput, IsRefused, IsOpenLine, IsAskedFor, TellsText}
 use Rattle.dimacs_front.specs.declared.input.Input.{Input}
 use Rattle.dimacs_front.specs.declared.refused.TextRefused.{TextRefused}
+use Rattle.dimacs_front.specs.declared.refused.TextRefused.TheVariants.{NotBuilt}
 use Rattle.dimacs_front.specs.declared.refused.ReadRefused.TheVariants.{Text}
 use Rattle.allsat_run.specs.declared.status.Status.{Status}
 use Rattle.allsat_run.specs.declared.status.Status.TheVariants.{Finished, WordsRefused, InputRefused, OutOfMemory, ReadFault, WriteFault}
@@ -21,10 +23,11 @@ pub record IsWritten (before now : SinkView) (text : List ℕ) : Type 0 where
   pub stands : now.faults ≡ before.faults
   pub ended : now.finished ≡ true
 
--- a right list of the input that all the bytes taken say
+-- a right list of the input that all the bytes taken say, which is no saved text
 pub record Solves (left : Option (List ℕ)) (taken : List ℕ) (cubes : List (List ℤ)) : Type 0 where
   pub input : Input
   pub text : IsInput left taken input
+  pub plain : input.saved ≡ None
   pub right : IsRightList input.subject.formula.clauses input.subject.shown input.subject.under
       cubes
 
@@ -47,14 +50,27 @@ pub record IsRefusedText (had left : Option (List ℕ)) (taken : List ℕ) (refu
   pub by_taken : IsRefused left taken refused
   pub by_all : TellsText had (Err (Text refused))
 
+-- the bytes taken say a saved text, from which no run goes on yet
+pub record IsSavedText (left : Option (List ℕ)) (taken : List ℕ) (refused : TextRefused) :
+    Type 0 where
+  pub input : Input
+  pub saved : Saved
+  pub text : IsInput left taken input
+  pub told : input.saved ≡ Some saved
+  pub named : refused ≡ NotBuilt 1
+
 -- the input failed where the status is a read fault, and else it did not
 abbrev pub CountsReadFault : ℕ → ℕ → Status → Type 0
 CountsReadFault before now (ReadFault line) = Rose before now
 CountsReadFault before now status = now ≡ before
 
 -- how a run ends on a text that says this, where no stream fails and there is memory
+abbrev pub status_by : Option Saved → Status
+status_by None = Finished
+status_by (Some saved) = InputRefused (NotBuilt 1)
+
 abbrev pub status_of : Result Input TextRefused → Status
-status_of (Ok input) = Finished
+status_of (Ok input) = status_by input.saved
 status_of (Err refused) = InputRefused refused
 
 -- A source and a sink with what they show, of which each is given as it was and as it is.
@@ -68,7 +84,8 @@ module _ {S K : Type 0} (source : S → SourceView) (sink : K → SinkView) wher
       IsCutOff (source input').left taken (sink out) (sink out')
   Says input input' taken out out' WordsRefused = (taken ≡ []) × (input' ≡ input) × (out' ≡ out)
   Says input input' taken out out' (InputRefused refused) =
-      IsRefusedText (source input).left (source input').left taken refused × (out' ≡ out)
+      (IsRefusedText (source input).left (source input').left taken refused
+      ⊎ IsSavedText (source input').left taken refused) × (out' ≡ out)
   Says input input' taken out out' (ReadFault line) = IsOpenLine taken line × (out' ≡ out)
   Says input input' taken out out' OutOfMemory = out' ≡ out
 

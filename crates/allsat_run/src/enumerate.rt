@@ -6,7 +6,7 @@ ghost use Rattle.allsat_run.specs.Words.{IsEnumerate};
 use crate::search::list_cubes;
 use crate::{Ended, Status, Words, write_note};
 use cube_text::write_listing;
-use dimacs_front::{ReadRefused, read_subject};
+use dimacs_front::{ReadRefused, TextRefused, read_subject};
 use fault_io::{Sink, Source};
 use sat_terms::{Cube, Items};
 use std::alloc::Global;
@@ -41,19 +41,22 @@ pub fn run<R: Threads + Wait + Sync, S: Source, K: Sink, N: Sink>(
 }
 
 /// Reads the input, enumerates and writes the listing, on the calling thread. It waits for nobody
-/// and always returns.
+/// and always returns. From a saved text no run goes on yet: it is refused as such.
 pub fn enumerate_alone<S: Source, K: Sink>(alloc: Global, input: &mut S, out: &mut K) -> Status
     ensures words { result ≢ Status.WordsRefused }
     ensures answers { Answers S.shows K.shows input.old input.new out.old out.new result }
     ensures complete { Completes S.shows K.shows input.old input.new out.old out.new result }
 {
-    let subject = match read_subject(alloc, input) {
-        Ok(input) => input.subject,
+    let input = match read_subject(alloc, input) {
+        Ok(input) => input,
         Err(ReadRefused::Text(refused)) => return Status::InputRefused(refused),
         Err(ReadRefused::ReadFault(line)) => return Status::ReadFault(line),
         Err(ReadRefused::OutOfMemory(_)) => return Status::OutOfMemory,
     };
-    match list_cubes(alloc, &subject) {
+    if input.saved.is_some() {
+        return Status::InputRefused(TextRefused::NotBuilt { line: 1 });
+    }
+    match list_cubes(alloc, &input.subject) {
         Ok(cubes) => write_out(&Items::from_vec(cubes), out),
         Err(_) => Status::OutOfMemory,
     }

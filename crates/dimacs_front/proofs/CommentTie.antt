@@ -1,5 +1,5 @@
 -- A comment line says to the machine what it says.
-use Rattle.std.proofs.Common.{◌≡◌, ℕ, Bool, true, false, not, cond, ◌&&◌, ◌||◌, eqb, List, [], ◌∷◌, map, ◌++◌, ℤ, nat_abs, Option, Result, Ok, refl, sym, ap, ◌∙◌, lit<}
+use Rattle.std.proofs.Common.{◌≡◌, ℕ, Bool, true, false, not, cond, ◌&&◌, eqb, List, [], ◌∷◌, map, ◌++◌, ℤ, nat_abs, Option, Result, Ok, refl, sym, ap, ◌∙◌, lit<}
 use Rattle.std.specs.Prelude.{codes}
 use Rattle.std.specs.Str.{bytes_eq}
 use Rattle.std.proofs.lemmas.Bool.{cond-true}
@@ -9,20 +9,25 @@ use Rattle.dimacs_tokens.specs.Seen.{seen_token, begins_with, is_nil}
 use Rattle.dimacs_tokens.proofs.NumberLaws.{words_by_head}
 use Rattle.dimacs_front.specs.declared.under.Given.{Given}
 use Rattle.dimacs_front.specs.declared.refused.TextRefused.{TextRefused}
-use Rattle.dimacs_front.specs.declared.refused.TextRefused.TheVariants.{NotBuilt}
+use Rattle.dimacs_front.specs.declared.refused.TextRefused.TheVariants.{SavedBad, NotBuilt}
 use Rattle.dimacs_front.specs.declared.line_place.LinePlace.{LinePlace}
 use Rattle.dimacs_front.specs.declared.comment_line.CommentPlace.{CommentPlace}
 use Rattle.dimacs_front.specs.declared.comment_line.CommentPlace.TheVariants as comment
-use Rattle.dimacs_front.specs.declared.line_place.LinePlace.TheVariants.{Beginning, Comment, Show, Under, Refused}
+use Rattle.dimacs_front.specs.declared.line_place.LinePlace.TheVariants.{Beginning, Comment, Show, Under, Saved, Refused}
+use Rattle.dimacs_front.specs.declared.saved_lines.SavedList.TheVariants.{Cubes, Pending}
+use Rattle.dimacs_front.specs.declared.saved_line.SavedPlace.{SavedPlace}
+use Rattle.dimacs_front.specs.declared.saved_line.SavedPlace.TheVariants.{Listed, End}
 use Rattle.dimacs_front.specs.MachinePlaces.{in_comment}
 use Rattle.dimacs_front.specs.Steps.{and_then, needs}
 use Rattle.dimacs_front.specs.HeaderLines.{Below}
 use Rattle.dimacs_front.specs.ListLines.{ListLine, show_says, under_says}
-use Rattle.dimacs_front.specs.TextLines.{Said, with_show, with_given, comment_says}
+use Rattle.dimacs_front.specs.SavedTexts.{SavedSaid, is_version, unended, cube_says, last_says}
+use Rattle.dimacs_front.specs.TextLines.{Said, with_show, with_given, with_saved, comment_says}
 use Rattle.dimacs_front.specs.Machine.{StateView, eaten, closed}
 use Rattle.dimacs_front.proofs.MachineLines.{tokens_said, line_said, names_behind}
-use Rattle.dimacs_front.proofs.Ties.{names_of, formula_of, is_begun, standing, state_of, Met, met_same, met_map, met_as, refused_line}
+use Rattle.dimacs_front.proofs.Ties.{names_of, standing, state_of, Met, met_same, met_map, met_as, refused_line}
 use Rattle.dimacs_front.proofs.UnderTie.{given_list, under_met}
+use Rattle.dimacs_front.proofs.SavedTie.{below_saved, first_line_met, cube_line_met, last_line_met}
 use Rattle.dimacs_front.proofs.ListTie.{below_show, shown_list, show_met}
 
 -- a word that is `p` is not `allsat`
@@ -50,73 +55,105 @@ behind_one c = cond c comment.Word comment.Passed
 abbrev behind_two : Bool → Bool → Bool → CommentPlace
 behind_two c p a = cond c (cond p comment.Parted (cond a comment.Named comment.Passed)) comment.Passed
 
-abbrev behind_three : Bool → Bool → Bool → Bool → Bool → Bool → CommentPlace
-behind_three c p a w u m =
-    cond c (cond p (cond w comment.Show (cond u comment.Under comment.Passed)) (cond a (cond m comment.Own comment.Passed) comment.Passed)) comment.Passed
+-- behind `c p` and the word of a kind of line
+abbrev by_kind : Bool → Bool → Bool → Bool → Bool → CommentPlace
+by_kind w u b v e =
+    cond w comment.Show (cond u comment.Under (cond b comment.Cube (cond v comment.Open (cond e comment.End comment.Passed))))
 
--- the words of a show line, and of the first line of a text of the program's own
-abbrev shows : Bool → Bool → Bool → Bool
-shows c p w = c && (p && (w && true))
+-- and behind `c allsat`
+abbrev by_text : Bool → Bool → CommentPlace
+by_text m s = cond m comment.Met (cond s comment.Saved comment.Passed)
 
-abbrev is_own : Bool → Bool → Bool → Bool → Bool → Bool
-is_own one c a s m = one && ((c && (a && (s && true))) || (c && (a && (m && true))))
+abbrev behind_three : Bool → Bool → Bool → CommentPlace → CommentPlace → CommentPlace
+behind_three c p a x y = cond c (cond p x (cond a y comment.Passed)) comment.Passed
 
-three_places : (one c p w u a s m : Bool) → (p && a) ≡ false →
-    behind_three c p (one && a) w u (s || m) ≡
-    cond (shows c p w) comment.Show (cond (shows c p u) comment.Under (cond (is_own one c a s m) comment.Own comment.Passed))
-three_places true false p w u a s m h = refl
-three_places false false p w u a s m h = refl
-three_places one true true w u true s m h = absurd (cc)
-three_places one true true true u false s m h = refl
-three_places one true true false true false s m h = refl
-three_places true true true false false false s m h = refl
-three_places false true true false false false s m h = refl
-three_places false true false w u a s m h = refl
-three_places true true false w u false s m h = refl
-three_places true true false w u true true m h = refl
-three_places true true false w u true false true h = refl
-three_places true true false w u true false false h = refl
+-- the words of a kind of line, and of the first line of a text of the program's own
+abbrev three : Bool → Bool → Bool → Bool
+three c p w = c && (p && (w && true))
+
+-- the place by whole words, in their order
+abbrev by_all : Bool → Bool → Bool → Bool → Bool → Bool → Bool → CommentPlace
+by_all w u m s b v e =
+    cond w comment.Show (cond u comment.Under (cond m comment.Met (cond s comment.Saved (cond b comment.Cube (cond v comment.Open (cond e comment.End comment.Passed))))))
+
+and_true : (b : Bool) → (b && true) ≡ b
+and_true true = refl
+and_true false = refl
+
+no_text : (one : Bool) → (one && false) ≡ false
+no_text true = refl
+no_text false = refl
+
+one_text : (one m : Bool) → (one && (m && true)) ≡ (one && m)
+one_text true m = and_true m
+one_text false m = refl
+
+kind_places : (one w u b v e : Bool) →
+    by_kind w u b v e ≡ by_all (w && true) (u && true) (one && false) (one && false) (b && true) (v && true) (e && true)
+kind_places one w u b v e =
+    (λ i. by_all (sym (and_true w) i) (sym (and_true u) i) (sym (no_text one) i) (sym (no_text one) i) (sym (and_true b) i) (sym (and_true v) i) (sym (and_true e) i))
+
+text_places : (one m s : Bool) →
+    cond one (by_text m s) comment.Passed ≡ by_all false false (one && (m && true)) (one && (s && true)) false false false
+text_places true m s = (λ i. by_all false false (sym (and_true m) i) (sym (and_true s) i) false false false)
+text_places false m s = refl
+
+three_places : (one c p a w u m s b v e : Bool) → (p && a) ≡ false →
+    behind_three c p (one && a) (by_kind w u b v e) (by_text m s) ≡
+    by_all (three c p w) (three c p u) (one && three c a m) (one && three c a s) (three c p b) (three c p v) (three c p e)
+three_places one false p a w u m s b v e h =
+    (λ i. by_all false false (sym (no_text one) i) (sym (no_text one) i) false false false)
+three_places one true true true w u m s b v e h = absurd (cc)
+three_places one true true false w u m s b v e h = kind_places one w u b v e
+three_places true true false true w u m s b v e h = text_places true m s
+three_places false true false true w u m s b v e h = refl
+three_places one true false false w u m s b v e h =
+    (λ i. behind_three true false (no_text one i) (by_kind w u b v e) (by_text m s))
+    ∙ (λ i. by_all false false (sym (no_text one) i) (sym (no_text one) i) false false false)
 
 -- too few tokens
-few_are_no_show : (c p : Bool) → (c && (p && false)) ≡ false
-few_are_no_show true true = refl
-few_are_no_show true false = refl
-few_are_no_show false p = refl
+few_are_no_kind : (c p : Bool) → (c && (p && false)) ≡ false
+few_are_no_kind true true = refl
+few_are_no_kind true false = refl
+few_are_no_kind false p = refl
 
-few_are_not_own : (one c a : Bool) → (one && ((c && (a && false)) || (c && (a && false)))) ≡ false
-few_are_not_own true true true = refl
-few_are_not_own true true false = refl
-few_are_not_own true false a = refl
-few_are_not_own false c a = refl
+few_are_no_text : (one c a : Bool) → (one && (c && (a && false))) ≡ false
+few_are_no_text true c a = few_are_no_kind c a
+few_are_no_text false c a = refl
 
-one_is_no_show : (c : Bool) → (c && false) ≡ false
-one_is_no_show true = refl
-one_is_no_show false = refl
+one_is_no_kind : (c : Bool) → (c && false) ≡ false
+one_is_no_kind true = refl
+one_is_no_kind false = refl
 
-one_is_not_own : (one c : Bool) → (one && ((c && false) || (c && false))) ≡ false
-one_is_not_own true true = refl
-one_is_not_own true false = refl
-one_is_not_own false c = refl
+one_is_no_text : (one c : Bool) → (one && (c && false)) ≡ false
+one_is_no_text true c = one_is_no_kind c
+one_is_no_text false c = refl
 
-module _ (n : ℕ) (o : Option Below) (ms : List ListLine) (gs : List Given) where
+module _ (n : ℕ) (o : Option Below) (ms : List ListLine) (gs : List Given) (k : SavedSaid) where
   abbrev at : LinePlace → StateView
-  at p = standing p o ms gs
+  at p = standing p o ms gs k
 
   first : (t : List ℕ) → begins_with (seen_token t) 99 ≡ true →
-      eaten n (at Beginning) (seen_token t) ≡ at (in_comment n (behind_one (bytes_eq (seen_token t).head (codes "c"))))
+      eaten n (at Beginning) (seen_token t) ≡ at (in_comment k n (behind_one (bytes_eq (seen_token t).head (codes "c"))))
   unfolding eaten
   first t h = cond-true _ _ _ h
 
   second : (c : Bool) (t : List ℕ) →
-      eaten n (at (in_comment n (behind_one c))) (seen_token t) ≡
-      at (in_comment n (behind_two c (bytes_eq (seen_token t).head (codes "p")) (eqb n 1 && bytes_eq (seen_token t).head (codes "allsat"))))
+      eaten n (at (in_comment k n (behind_one c))) (seen_token t) ≡
+      at (in_comment k n (behind_two c (bytes_eq (seen_token t).head (codes "p")) (eqb n 1 && bytes_eq (seen_token t).head (codes "allsat"))))
   unfolding eaten
   second true t = refl
   second false t = refl
 
+  abbrev kind_of : List ℕ → CommentPlace
+  kind_of h = by_kind (bytes_eq h (codes "show")) (bytes_eq h (codes "under")) (bytes_eq h (codes "cube")) (bytes_eq h (codes "open")) (bytes_eq h (codes "end"))
+
+  abbrev text_of : List ℕ → CommentPlace
+  text_of h = by_text (bytes_eq h (codes "met")) (bytes_eq h (codes "saved"))
+
   third : (c p a : Bool) (t : List ℕ) →
-      eaten n (at (in_comment n (behind_two c p a))) (seen_token t) ≡
-      at (in_comment n (behind_three c p a (bytes_eq (seen_token t).head (codes "show")) (bytes_eq (seen_token t).head (codes "under")) (bytes_eq (seen_token t).head (codes "saved") || bytes_eq (seen_token t).head (codes "met"))))
+      eaten n (at (in_comment k n (behind_two c p a))) (seen_token t) ≡
+      at (in_comment k n (behind_three c p a (kind_of (seen_token t).head) (text_of (seen_token t).head)))
   unfolding eaten
   third true true a t = refl
   third true false true t = refl
@@ -131,12 +168,12 @@ module _ (n : ℕ) (o : Option Below) (ms : List ListLine) (gs : List Given) whe
   passed_tokens [] = refl
   passed_tokens (t ∷ ts) = ap (λ x. tokens_said n x ts) (passed_token t) ∙ passed_tokens ts
 
-  one_ends : (c : Bool) → closed n (at (in_comment n (behind_one c))) ≡ at Beginning
+  one_ends : (c : Bool) → closed n (at (in_comment k n (behind_one c))) ≡ at Beginning
   unfolding closed
   one_ends true = refl
   one_ends false = refl
 
-  two_end : (c p a : Bool) → closed n (at (in_comment n (behind_two c p a))) ≡ at Beginning
+  two_end : (c p a : Bool) → closed n (at (in_comment k n (behind_two c p a))) ≡ at Beginning
   unfolding closed
   two_end true true a = refl
   two_end true false true = refl
@@ -147,100 +184,142 @@ module _ (n : ℕ) (o : Option Below) (ms : List ListLine) (gs : List Given) whe
   unfolding closed
   passed_ends = refl
 
+  passed_line : (ts : List (List ℕ)) → closed n (tokens_said n (at (Comment comment.Passed)) ts) ≡ at Beginning
+  passed_line ts = ap (closed n) (passed_tokens ts) ∙ passed_ends
+
   abbrev said : Said
-  said = record { below = o; shows = ms; given = gs; over = false }
+  said = record { below = o; shows = ms; given = gs; saved = k; over = false }
+
+  -- what a comment says of a saved text, by its words
+  abbrev saved_by : Bool → Bool → Bool → Bool → List (List ℕ) → Result SavedSaid TextRefused
+  saved_by s b v e ts =
+      cond s (needs (is_version ts) (SavedBad n) (Ok (record k { named = true })))
+      (cond k.named
+      (cond b (unended n k (cube_says Cubes n k ts))
+      (cond v (unended n k (cube_says Pending n k ts))
+      (cond e (unended n k (last_says n k ts)) (Ok k))))
+      (Ok k))
 
   -- what a comment says, by its words
-  abbrev by_words : Bool → Bool → Bool → List (List ℕ) → Result Said TextRefused
-  by_words q r m ts =
-      cond q (and_then (λ k. Ok (with_show said k)) (show_says n (map token_value ts)))
-      (cond r (and_then (λ k. Ok (with_given said k)) (under_says n (map token_value ts)))
-      (needs (not m) (NotBuilt n) (Ok said)))
+  abbrev by_words : Bool → Bool → Bool → Bool → Bool → Bool → Bool → List (List ℕ) → Result Said TextRefused
+  by_words w u m s b v e ts =
+      cond w (and_then (λ x. Ok (with_show said x)) (show_says n (map token_value ts)))
+      (cond u (and_then (λ x. Ok (with_given said x)) (under_says n (map token_value ts)))
+      (needs (not m) (NotBuilt n) (and_then (λ x. Ok (with_saved said x)) (saved_by s b v e ts))))
 
   abbrev line_of : List ℤ → ListLine
   line_of ls = record { line = n; values = ls }
 
-  one_more_is_some : (ks : List ListLine) (k : ListLine) → true ≡ not (is_nil (ks ++ k ∷ []))
-  one_more_is_some [] k = refl
-  one_more_is_some (x ∷ ks) k = refl
+  one_more_is_some : (xs : List ListLine) (x : ListLine) → true ≡ not (is_nil (xs ++ x ∷ []))
+  one_more_is_some [] x = refl
+  one_more_is_some (y ∷ xs) x = refl
 
-  one_more_named : (k : ListLine) →
-      names_behind k.line (names_of [] ms) (map nat_abs k.values) ≡ names_of [] (ms ++ k ∷ [])
-  one_more_named k =
-      sym (fold-append (λ ks m. names_behind (ListLine.line m) ks (map nat_abs (ListLine.values m))) [] ms (k ∷ []))
+  one_more_named : (x : ListLine) →
+      names_behind x.line (names_of [] ms) (map nat_abs x.values) ≡ names_of [] (ms ++ x ∷ [])
+  one_more_named x =
+      sym (fold-append (λ ks m. names_behind (ListLine.line m) ks (map nat_abs (ListLine.values m))) [] ms (x ∷ []))
 
   one_more_said : (ls : List ℤ) →
-      below_show n (is_begun o) (formula_of o) gs (names_of [] ms) ls ≡ state_of (with_show said (line_of ls))
+      below_show n (at Beginning) (names_of [] ms) ls ≡ state_of (with_show said (line_of ls))
   one_more_said ls =
-      (λ i. record {
-        place = Beginning;
-        started = is_begun o;
-        formula = formula_of o;
+      (λ i. record (at Beginning) {
         given = one_more_is_some ms (line_of ls) i;
         named = one_more_named (line_of ls) i;
-        under = gs;
       })
 
   show_line_met : (ts : List (List ℕ)) →
-      Met state_of (and_then (λ k. Ok (with_show said k)) (show_says n (map token_value ts)))
+      Met state_of (and_then (λ x. Ok (with_show said x)) (show_says n (map token_value ts)))
       (closed n (tokens_said n (at Show) ts))
   show_line_met ts =
       met_map state_of (with_show said) (show_says n (map token_value ts)) (closed n (tokens_said n (at Show) ts))
-      (met_map (λ k. state_of (with_show said k)) line_of (shown_list n (map token_value ts)) (closed n (tokens_said n (at Show) ts))
-      (met_as (below_show n (is_begun o) (formula_of o) gs (names_of [] ms)) (λ ls. state_of (with_show said (line_of ls))) (shown_list n (map token_value ts)) _
+      (met_map (λ x. state_of (with_show said x)) line_of (shown_list n (map token_value ts)) (closed n (tokens_said n (at Show) ts))
+      (met_as (below_show n (at Beginning) (names_of [] ms)) (λ ls. state_of (with_show said (line_of ls))) (shown_list n (map token_value ts)) _
       one_more_said
-      (show_met n (is_begun o) (formula_of o) (not (is_nil ms)) gs (names_of [] ms) ts)))
+      (show_met n (at Beginning) (names_of [] ms) ts)))
 
   under_line_met : (ts : List (List ℕ)) →
-      Met state_of (and_then (λ k. Ok (with_given said k)) (under_says n (map token_value ts)))
+      Met state_of (and_then (λ x. Ok (with_given said x)) (under_says n (map token_value ts)))
       (closed n (tokens_said n (at Under) ts))
   under_line_met ts =
       met_map state_of (with_given said) (under_says n (map token_value ts)) (closed n (tokens_said n (at Under) ts))
-      (met_map (λ k. state_of (with_given said k)) line_of (given_list n (map token_value ts)) (closed n (tokens_said n (at Under) ts))
+      (met_map (λ x. state_of (with_given said x)) line_of (given_list n (map token_value ts)) (closed n (tokens_said n (at Under) ts))
       (under_met n (at Beginning) ts))
 
-  third_met : (q r m : Bool) (ts : List (List ℕ)) →
-      Met state_of (by_words q r m ts)
-      (closed n (tokens_said n (at (in_comment n (cond q comment.Show (cond r comment.Under (cond m comment.Own comment.Passed))))) ts))
-  third_met true r m ts = show_line_met ts
-  third_met false true m ts = under_line_met ts
-  third_met false false true ts = refused_line n (at (Refused (NotBuilt n))) (NotBuilt n) ts refl
-  third_met false false false ts = ap (closed n) (passed_tokens ts) ∙ passed_ends
+  -- a line of a saved text's own, as it stands in a saved text and in others
+  abbrev own : Bool → Bool → SavedPlace → LinePlace
+  own named ended p = cond named (cond ended (Refused (SavedBad n)) (Saved p)) (Comment comment.Passed)
 
-  few_met : (q m : Bool) (ts : List (List ℕ)) (u : StateView) → q ≡ false → m ≡ false →
-      u ≡ at Beginning → Met state_of (by_words q q m ts) u
+  own_met : (named ended : Bool) (p : SavedPlace) (x : Result SavedSaid TextRefused) (ts : List (List ℕ)) →
+      Met (below_saved (at Beginning)) x (closed n (tokens_said n (at (Saved p)) ts)) →
+      Met (below_saved (at Beginning)) (cond named (needs (not ended) (SavedBad n) x) (Ok k))
+      (closed n (tokens_said n (at (own named ended p)) ts))
+  own_met true true p x ts h = refused_line n (at (Refused (SavedBad n))) (SavedBad n) ts refl
+  own_met true false p x ts h = h
+  own_met false ended p x ts h = passed_line ts
+
+  no_own : (named : Bool) (ts : List (List ℕ)) →
+      Met (below_saved (at Beginning)) (cond named (Ok k) (Ok k)) (closed n (tokens_said n (at (Comment comment.Passed)) ts))
+  no_own true ts = passed_line ts
+  no_own false ts = passed_line ts
+
+  saved_met : (s b v e : Bool) (ts : List (List ℕ)) →
+      Met (below_saved (at Beginning)) (saved_by s b v e ts)
+      (closed n (tokens_said n (at (in_comment k n (by_all false false false s b v e))) ts))
+  saved_met true b v e ts = first_line_met n (at Beginning) ts
+  saved_met false true v e ts =
+      own_met k.named k.ended (Listed Cubes) (cube_says Cubes n k ts) ts (cube_line_met n Cubes (at Beginning) refl ts)
+  saved_met false false true e ts =
+      own_met k.named k.ended (Listed Pending) (cube_says Pending n k ts) ts (cube_line_met n Pending (at Beginning) refl ts)
+  saved_met false false false true ts =
+      own_met k.named k.ended End (last_says n k ts) ts (last_line_met n (at Beginning) ts)
+  saved_met false false false false ts = no_own k.named ts
+
+  third_met : (w u m s b v e : Bool) (ts : List (List ℕ)) →
+      Met state_of (by_words w u m s b v e ts)
+      (closed n (tokens_said n (at (in_comment k n (by_all w u m s b v e))) ts))
+  third_met true u m s b v e ts = show_line_met ts
+  third_met false true m s b v e ts = under_line_met ts
+  third_met false false true s b v e ts = refused_line n (at (Refused (NotBuilt n))) (NotBuilt n) ts refl
+  third_met false false false s b v e ts =
+      met_map state_of (with_saved said) (saved_by s b v e ts) _ (saved_met s b v e ts)
+
+  -- a line of too few tokens says nothing
+  few_met : (w m : Bool) (ts : List (List ℕ)) (u : StateView) → w ≡ false → m ≡ false →
+      u ≡ at Beginning → Met state_of (by_words w w m m w w w ts) u
   few_met true m ts u e f h = absurd (cc)
   few_met false true ts u e f h = absurd (cc)
-  few_met false false ts u e f h = h
+  few_met false false ts u e f h = nothing_said k.named
+    where
+      nothing_said : (named : Bool) → Met state_of (and_then (λ x. Ok (with_saved said x)) (cond named (Ok k) (Ok k))) u
+      nothing_said true = h
+      nothing_said false = h
 
   pub comment_met : (t : List ℕ) (ts : List (List ℕ)) → begins_with (seen_token t) 99 ≡ true →
       Met state_of (comment_says n said (t ∷ ts)) (line_said n (at Beginning) (t ∷ ts))
   comment_met t [] h =
       let c : Bool = bytes_eq t (codes "c") in
-      few_met (c && false) (eqb n 1 && ((c && false) || (c && false))) [] _ (one_is_no_show c) (one_is_not_own (eqb n 1) c)
+      few_met (c && false) (eqb n 1 && (c && false)) [] _ (one_is_no_kind c) (one_is_no_text (eqb n 1) c)
       (ap (closed n) (first t h) ∙ one_ends (bytes_eq (seen_token t).head (codes "c")))
   comment_met t (u ∷ []) h =
       let c : Bool = bytes_eq t (codes "c") in
       let p : Bool = bytes_eq u (codes "p") in
       let a : Bool = bytes_eq u (codes "allsat") in
-      let k : Bool = bytes_eq (seen_token t).head (codes "c") in
-      few_met (c && (p && false)) (eqb n 1 && ((c && (a && false)) || (c && (a && false)))) [] _ (few_are_no_show c p) (few_are_not_own (eqb n 1) c a)
+      let d : Bool = bytes_eq (seen_token t).head (codes "c") in
+      few_met (c && (p && false)) (eqb n 1 && (c && (a && false))) [] _ (few_are_no_kind c p) (few_are_no_text (eqb n 1) c a)
       (ap (λ x. closed n (eaten n x (seen_token u))) (first t h)
-      ∙ ap (closed n) (second k u)
-      ∙ two_end k (bytes_eq (seen_token u).head (codes "p")) (eqb n 1 && bytes_eq (seen_token u).head (codes "allsat")))
+      ∙ ap (closed n) (second d u)
+      ∙ two_end d (bytes_eq (seen_token u).head (codes "p")) (eqb n 1 && bytes_eq (seen_token u).head (codes "allsat")))
   comment_met t (u ∷ v ∷ ts) h =
-      let k : Bool = bytes_eq (seen_token t).head (codes "c") in
+      let d : Bool = bytes_eq (seen_token t).head (codes "c") in
       let c : Bool = bytes_eq t (codes "c") in
       let p : Bool = bytes_eq u (codes "p") in
       let a : Bool = bytes_eq u (codes "allsat") in
-      let w : Bool = bytes_eq v (codes "show") in
-      let g : Bool = bytes_eq v (codes "under") in
-      let s : Bool = bytes_eq v (codes "saved") in
-      let m : Bool = bytes_eq v (codes "met") in
-      met_same state_of (by_words (shows c p w) (shows c p g) (is_own (eqb n 1) c a s m) ts) _ _
+      let one : Bool = eqb n 1 in
+      let is : (w : List ℕ) → Bool = λ w. bytes_eq v w in
+      met_same state_of (by_words (three c p (is (codes "show"))) (three c p (is (codes "under"))) (one && three c a (is (codes "met"))) (one && three c a (is (codes "saved"))) (three c p (is (codes "cube"))) (three c p (is (codes "open"))) (three c p (is (codes "end"))) ts) _ _
       (ap (λ x. closed n (tokens_said n (eaten n (eaten n x (seen_token u)) (seen_token v)) ts)) (first t h)
-      ∙ ap (λ x. closed n (tokens_said n (eaten n x (seen_token v)) ts)) (second k u)
-      ∙ ap (λ x. closed n (tokens_said n x ts)) (third k (bytes_eq (seen_token u).head (codes "p")) (eqb n 1 && bytes_eq (seen_token u).head (codes "allsat")) v)
-      ∙ (λ i. closed n (tokens_said n (at (in_comment n (behind_three (words_by_head t (codes "c") (lit< tt) i) (words_by_head u (codes "p") (lit< tt) i) (eqb n 1 && words_by_head u (codes "allsat") (lit< tt) i) (words_by_head v (codes "show") (lit< tt) i) (words_by_head v (codes "under") (lit< tt) i) (words_by_head v (codes "saved") (lit< tt) i || words_by_head v (codes "met") (lit< tt) i)))) ts))
-      ∙ ap (λ x. closed n (tokens_said n (at (in_comment n x)) ts)) (three_places (eqb n 1) c p w g a s m (one_word u)))
-      (third_met (shows c p w) (shows c p g) (is_own (eqb n 1) c a s m) ts)
+      ∙ ap (λ x. closed n (tokens_said n (eaten n x (seen_token v)) ts)) (second d u)
+      ∙ ap (λ x. closed n (tokens_said n x ts)) (third d (bytes_eq (seen_token u).head (codes "p")) (one && bytes_eq (seen_token u).head (codes "allsat")) v)
+      ∙ (λ i. closed n (tokens_said n (at (in_comment k n (behind_three (words_by_head t (codes "c") (lit< tt) i) (words_by_head u (codes "p") (lit< tt) i) (one && words_by_head u (codes "allsat") (lit< tt) i) (by_kind (words_by_head v (codes "show") (lit< tt) i) (words_by_head v (codes "under") (lit< tt) i) (words_by_head v (codes "cube") (lit< tt) i) (words_by_head v (codes "open") (lit< tt) i) (words_by_head v (codes "end") (lit< tt) i)) (by_text (words_by_head v (codes "met") (lit< tt) i) (words_by_head v (codes "saved") (lit< tt) i))))) ts))
+      ∙ ap (λ x. closed n (tokens_said n (at (in_comment k n x)) ts)) (three_places one c p a (is (codes "show")) (is (codes "under")) (is (codes "met")) (is (codes "saved")) (is (codes "cube")) (is (codes "open")) (is (codes "end")) (one_word u)))
+      (third_met (three c p (is (codes "show"))) (three c p (is (codes "under"))) (one && three c a (is (codes "met"))) (one && three c a (is (codes "saved"))) (three c p (is (codes "cube"))) (three c p (is (codes "open"))) (three c p (is (codes "end"))) ts)

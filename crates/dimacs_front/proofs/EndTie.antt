@@ -7,17 +7,18 @@ use Rattle.std.proofs.Math.Bool.{or-false, or_assoc}
 use Rattle.dimacs_tokens.specs.Seen.{is_nil}
 use Rattle.dimacs_front.specs.declared.under.Given.{Given}
 use Rattle.dimacs_front.specs.declared.refused.TextRefused.{TextRefused}
-use Rattle.dimacs_front.specs.declared.refused.TextRefused.TheVariants.{Unfinished, ClauseCount, ShowBad, TooManyShown, UnderBad}
+use Rattle.dimacs_front.specs.declared.refused.TextRefused.TheVariants.{Unfinished, ClauseCount, ShowBad, TooManyShown, UnderBad, SavedBad, SavedUnended}
 use Rattle.dimacs_front.specs.declared.shown.Named.{Named}
 use Rattle.dimacs_front.specs.declared.input.Input.{Input}
 use Rattle.dimacs_front.specs.Limits.{most_shown}
 use Rattle.dimacs_front.specs.Steps.{needs, unless}
 use Rattle.dimacs_front.specs.HeaderLines.{Below}
 use Rattle.dimacs_front.specs.ListLines.{ListLine}
+use Rattle.dimacs_front.specs.SavedTexts.{SavedSaid}
 use Rattle.dimacs_front.specs.TextLines.{Said}
-use Rattle.dimacs_front.specs.TextEnds.{is_shown, shown_of, first_above, first_misplaced, under_of, input_of, shown_says, below_says, end_says}
+use Rattle.dimacs_front.specs.TextEnds.{is_shown, shown_of, first_above, first_misplaced, under_of, lowest_outside, input_of, shown_says, below_says, end_says}
 use Rattle.dimacs_front.specs.Machine.{StateView, is_named, name_once}
-use Rattle.dimacs_front.specs.MachineEnd.{first_name_above, range_refusal, end_refusal, or_named, names_shown, few, with_under, with_shown, by_end, end_of}
+use Rattle.dimacs_front.specs.MachineEnd.{first_name_above, range_refusal, end_refusal, or_named, names_shown, few, with_saved_lines, with_under, with_shown, by_end, end_of}
 use Rattle.dimacs_front.proofs.MachineLines.{named_in, names_behind}
 use Rattle.dimacs_front.proofs.Ties.{names_of, formula_of, standing, state_of}
 use Rattle.dimacs_front.proofs.Names.{names_told}
@@ -162,53 +163,59 @@ lines_above v ks (m ∷ ms) =
 
 -- ---- the end
 
-given_said : (w : Below) (gs : List Given) (vs : List ℕ) (o : Option ℕ) →
-    unless o UnderBad (Ok (input_of w.variables w.clauses vs (under_of gs vs))) ≡
-    with_under (formula_of (Some w)) gs vs o
-given_said w gs vs None = refl
-given_said w gs vs (Some line) = refl
+module _ (w : Below) (gs : List Given) (k : SavedSaid) (vs : List ℕ) where
+  saved_said : (o : Option ℕ) →
+      unless o SavedBad (Ok (input_of w.variables w.clauses vs (under_of gs vs) k)) ≡
+      with_saved_lines (formula_of (Some w)) vs (under_of gs vs) k o
+  saved_said None = refl
+  saved_said (Some line) = refl
 
-few_said-at : (n : ℕ) (w : Below) (gs : List Given) (vs : List ℕ) (q : Bool) →
-    needs q (TooManyShown n) (with_under (formula_of (Some w)) gs vs (first_misplaced vs [] gs)) ≡
-    with_shown n (formula_of (Some w)) gs (cond q (Some vs) None)
-few_said-at n w gs vs true = refl
-few_said-at n w gs vs false = refl
+  given_said : (o : Option ℕ) →
+      unless o UnderBad (unless (lowest_outside vs (under_of gs vs) k) SavedBad (Ok (input_of w.variables w.clauses vs (under_of gs vs) k))) ≡
+      with_under (formula_of (Some w)) gs k vs o
+  given_said None = saved_said (lowest_outside vs (under_of gs vs) k)
+  given_said (Some line) = refl
 
-few_said : (n : ℕ) (w : Below) (gs : List Given) (vs : List ℕ) →
-    shown_says n w gs vs ≡ with_shown n (formula_of (Some w)) gs (few vs)
-few_said n w gs vs =
-    ap (needs (leb (length vs) most_shown) (TooManyShown n)) (given_said w gs vs (first_misplaced vs [] gs))
-    ∙ few_said-at n w gs vs (leb (length vs) most_shown)
+  few_said-at : (n : ℕ) (q : Bool) →
+      needs q (TooManyShown n) (with_under (formula_of (Some w)) gs k vs (first_misplaced vs [] gs)) ≡
+      with_shown n (formula_of (Some w)) gs k (cond q (Some vs) None)
+  few_said-at n true = refl
+  few_said-at n false = refl
 
-tests_said : (n : ℕ) (s : StateView) (x : Result Input TextRefused) (a b : Bool) (o : Option ℕ)
+  few_said : (n : ℕ) → shown_says n w gs k vs ≡ with_shown n (formula_of (Some w)) gs k (few vs)
+  few_said n =
+      ap (needs (leb (length vs) most_shown) (TooManyShown n)) (given_said (first_misplaced vs [] gs))
+      ∙ few_said-at n (leb (length vs) most_shown)
+
+tests_said : (n : ℕ) (s : StateView) (x : Result Input TextRefused) (a b c : Bool) (o : Option ℕ)
     (count : TextRefused) →
-    x ≡ with_shown n s.formula s.under (few (names_shown s.given s.named s.formula.variables)) →
-    needs a (Unfinished n) (needs b count (unless o ShowBad x)) ≡
-    by_end (cond a (cond b (range_refusal o) (Some count)) (Some (Unfinished n))) n s
-tests_said n s x true true None count h = h
-tests_said n s x true true (Some l) count h = refl
-tests_said n s x true false o count h = refl
-tests_said n s x false b o count h = refl
+    x ≡ with_shown n s.formula s.under s.saved (few (names_shown s.given s.named s.formula.variables)) →
+    needs a (Unfinished n) (needs b (SavedUnended n) (needs c count (unless o ShowBad x))) ≡
+    by_end (cond a (cond b (cond c (range_refusal o) (Some count)) (Some (SavedUnended n))) (Some (Unfinished n))) n s
+tests_said n s x true true true None count h = h
+tests_said n s x true true true (Some l) count h = refl
+tests_said n s x true true false o count h = refl
+tests_said n s x true false c o count h = refl
+tests_said n s x false b c o count h = refl
 
-below_met : (n : ℕ) (w : Below) (ms : List ListLine) (gs : List Given) (s : StateView) →
-    s ≡ standing s.place (Some w) ms gs → below_says n w ms gs ≡ end_of n s
+below_met : (n : ℕ) (w : Below) (ms : List ListLine) (gs : List Given) (k : SavedSaid) (s : StateView) →
+    s ≡ standing s.place (Some w) ms gs k → below_says n w ms gs k ≡ end_of n s
 unfolding end_of end_refusal
-below_met n w ms gs s e =
-    let there : StateView = standing s.place (Some w) ms gs in
+below_met n w ms gs k s e =
+    let there : StateView = standing s.place (Some w) ms gs k in
     let shown : names_shown there.given there.named w.variables ≡ shown_of w ms =
     (λ i. filter (λ v. shown_same ms v i) (range_with_len 1 w.variables)) in
     let vs : List ℕ = names_shown there.given there.named w.variables in
     let large : first_name_above w.variables there.named ≡ first_above w.variables ms = lines_above w.variables [] ms in
-    (λ i. needs (is_nil w.open_clause) (Unfinished n) (needs (eqb (length w.clauses) w.said) (ClauseCount n w.said (length w.clauses)) (unless (sym large i) ShowBad (shown_says n w gs (sym shown i)))))
-    ∙ tests_said n there (shown_says n w gs vs) (is_nil w.open_clause) (eqb (length w.clauses) w.said) (first_name_above w.variables there.named) (ClauseCount n w.said (length w.clauses)) (few_said n w gs vs)
+    (λ i. needs (is_nil w.open_clause) (Unfinished n) (needs (not k.named || k.ended) (SavedUnended n) (needs (eqb (length w.clauses) w.said) (ClauseCount n w.said (length w.clauses)) (unless (sym large i) ShowBad (shown_says n w gs k (sym shown i))))))
+    ∙ tests_said n there (shown_says n w gs k vs) (is_nil w.open_clause) (not k.named || k.ended) (eqb (length w.clauses) w.said) (first_name_above w.variables there.named) (ClauseCount n w.said (length w.clauses)) (few_said w gs k vs n)
     ∙ ap (λ x. by_end (end_refusal n x) n x) (sym e)
 
-said_met : (n : ℕ) (o : Option Below) (ms : List ListLine) (gs : List Given) (over : Bool) →
-    end_says n o ms gs ≡ end_of n (state_of (record { below = o; shows = ms; given = gs; over = over }))
+said_met : (n : ℕ) (s : Said) (o : Option Below) → end_says n s o ≡ end_of n (state_of (record s { below = o }))
 unfolding end_of end_refusal
-said_met n None ms gs over = refl
-said_met n (Some w) ms gs over =
-    below_met n w ms gs (state_of (record { below = Some w; shows = ms; given = gs; over = over })) refl
+said_met n s None = refl
+said_met n s (Some w) =
+    below_met n w s.shows s.given s.saved (state_of (record s { below = Some w })) refl
 
-pub end_met : (n : ℕ) (s : Said) → end_says n s.below s.shows s.given ≡ end_of n (state_of s)
-end_met n s = said_met n s.below s.shows s.given s.over
+pub end_met : (n : ℕ) (s : Said) → end_says n s s.below ≡ end_of n (state_of s)
+end_met n s = said_met n s s.below

@@ -15,6 +15,7 @@ use Rattle.dimacs_front.specs.Limits.{most_variables, most_clauses}
 use Rattle.dimacs_front.specs.Steps.{needs}
 use Rattle.dimacs_front.specs.HeaderLines.{Below, natural, header_of, header_says}
 use Rattle.dimacs_front.specs.ListLines.{ListLine}
+use Rattle.dimacs_front.specs.SavedTexts.{SavedSaid}
 use Rattle.dimacs_front.specs.MachineHeader.{header_begun, behind_variables, behind_clauses, header_after}
 use Rattle.dimacs_front.specs.Machine.{StateView, at_place, refuse, eaten, header_ended, closed}
 use Rattle.dimacs_front.proofs.MachineLines.{tokens_said}
@@ -63,12 +64,12 @@ broken_five : (o : Option ℕ) (c x : List ℕ) (ts : List (List ℕ)) →
 broken_five None c x ts = broken_places (c ∷ x ∷ ts)
 broken_five (Some v) c x ts = broken_at v (natural (value_of (seen_token c).number)) x ts
 
-module _ (n : ℕ) (ms : List ListLine) (gs : List Given) where
+module _ (n : ℕ) (ms : List ListLine) (gs : List Given) (k : SavedSaid) where
   abbrev above : StateView
-  above = standing Beginning None ms gs
+  above = standing Beginning None ms gs k
 
   abbrev behind : Below → StateView
-  behind w = standing Beginning (Some w) ms gs
+  behind w = standing Beginning (Some w) ms gs k
 
   abbrev ends : HeaderPlace → StateView
   ends h = header_ended h n above

@@ -17,6 +17,7 @@ use Rattle.dimacs_front.specs.Steps.{and_then, needs, steps}
 use Rattle.dimacs_front.specs.HeaderLines.{Below}
 use Rattle.dimacs_front.specs.NumberLines.{literals_of, clause_ended, literal_added, number_says, numbers_say}
 use Rattle.dimacs_front.specs.ListLines.{ListLine, list_says, is_variable, show_says}
+use Rattle.dimacs_front.specs.SavedTexts.{SavedSaid}
 use Rattle.dimacs_front.specs.TextLines.{Said, with_below, with_show, line_says, no_line, next_line, lines_say}
 use Rattle.dimacs_front.specs.TextLaws.{number_written, numbers_written, HasRoom, ALineOfNumbersSaysThese, TheFirstRefusedNumberCounts, IsVariable, variables, AShowLineShowsItsVariables, is_foreign, ShowLinesAreRefused, ALineWithoutTokensChangesNothing, TheFormulaEndsAtAPercent, TheLowestRefusedLineCounts}
 
@@ -118,11 +119,11 @@ numbers_fit n w (o ∷ os) (l ∷ ls) e r =
 
 pub number_line : ALineOfNumbersSaysThese
 unfolding line_says
-number_line n w ms gs [] [] e r = refl
-number_line n w ms gs [] (l ∷ ls) e r = absurd (cc)
-number_line n w ms gs (t ∷ ts) [] e r = absurd (cc)
-number_line n w ms gs (t ∷ ts) (l ∷ ls) e r =
-    let s : Said = record { below = Some w; shows = ms; given = gs; over = false } in
+number_line n w ms gs k [] [] e r = refl
+number_line n w ms gs k [] (l ∷ ls) e r = absurd (cc)
+number_line n w ms gs k (t ∷ ts) [] e r = absurd (cc)
+number_line n w ms gs k (t ∷ ts) (l ∷ ls) e r =
+    let s : Said = record { below = Some w; shows = ms; given = gs; saved = k; over = false } in
     let first : token_value t ≡ Some l = cc in
     cond-false _ _ _ (begins_not 99 no_c t l first)
     ∙ (λ i. needs (not (begins_not 112 no_p t l first i)) (HeaderTwice n) (cond (begins_not 37 no_percent t l first i) (Ok (record s { over = true })) (and_then (λ v. Ok (with_below s v)) (numbers_say n w (map token_value (t ∷ ts))))))
@@ -195,8 +196,8 @@ shows_refused = record {
 
 pub show_line : AShowLineShowsItsVariables
 unfolding line_says
-show_line n o ms gs ts vs e h =
-    let s : Said = record { below = o; shows = ms; given = gs; over = false } in
+show_line n o ms gs k ts vs e h =
+    let s : Said = record { below = o; shows = ms; given = gs; saved = k; over = false } in
     ap (λ os. and_then (λ m. Ok (with_show s m)) (show_says n os)) e
     ∙ ap (and_then (λ m. Ok (with_show s m))) (accepted_list n vs h ∙ ap (line_is n) (append-nil (map (λ v. pos v) vs)))
 
@@ -210,22 +211,22 @@ percent_only : (bs : List ℕ) (b : ℕ) → eqb 37 b ≡ false → list_begins 
 percent_only [] b other h = refl
 percent_only (c ∷ bs) b other h = ap (λ (x : ℕ). eqb x b) (eqb-true c 37 h) ∙ other
 
-over_line : (m : ℕ) (w : Below) (ms : List ListLine) (gs : List Given) (us : List (List ℕ)) →
-    line_says m (record { below = Some w; shows = ms; given = gs; over = true }) us ≡
-    Ok (record { below = Some w; shows = ms; given = gs; over = true })
+over_line : (m : ℕ) (w : Below) (ms : List ListLine) (gs : List Given) (k : SavedSaid) (us : List (List ℕ)) →
+    line_says m (record { below = Some w; shows = ms; given = gs; saved = k; over = true }) us ≡
+    Ok (record { below = Some w; shows = ms; given = gs; saved = k; over = true })
 unfolding line_says
-over_line m w ms gs [] = refl
-over_line m w ms gs (u ∷ us) = refl
+over_line m w ms gs k [] = refl
+over_line m w ms gs k (u ∷ us) = refl
 
-percent_begins : (n : ℕ) (w : Below) (ms : List ListLine) (gs : List Given) (t : List ℕ) (ts : List (List ℕ)) →
+percent_begins : (n : ℕ) (w : Below) (ms : List ListLine) (gs : List Given) (k : SavedSaid) (t : List ℕ) (ts : List (List ℕ)) →
     list_begins t 37 ≡ true →
-    line_says n (record { below = Some w; shows = ms; given = gs; over = false }) (t ∷ ts) ≡
-    Ok (record { below = Some w; shows = ms; given = gs; over = true })
+    line_says n (record { below = Some w; shows = ms; given = gs; saved = k; over = false }) (t ∷ ts) ≡
+    Ok (record { below = Some w; shows = ms; given = gs; saved = k; over = true })
 unfolding line_says
-percent_begins n w ms gs t ts h =
-    let s : Said = record { below = Some w; shows = ms; given = gs; over = false } in
+percent_begins n w ms gs k t ts h =
+    let s : Said = record { below = Some w; shows = ms; given = gs; saved = k; over = false } in
     cond-false _ _ _ (percent_only t 99 refl h)
     ∙ (λ i. needs (not (percent_only t 112 refl h i)) (HeaderTwice n) (cond (h i) (Ok (record s { over = true })) (and_then (λ v. Ok (with_below s v)) (numbers_say n w (map token_value (t ∷ ts))))))
 
 pub percent_line : TheFormulaEndsAtAPercent
-percent_line n m w ms gs t ts us h = (percent_begins n w ms gs t ts h, over_line m w ms gs us)
+percent_line n m w ms gs k t ts us h = (percent_begins n w ms gs k t ts h, over_line m w ms gs k us)

@@ -10,6 +10,9 @@ pub mod Names
 pub mod NumberTie
 pub mod PassedLines
 pub mod ReadingOn
+pub mod SavedInside
+pub mod SavedSteps
+pub mod SavedTie
 pub mod ShowOrder
 pub mod ShownSteps
 pub mod Sound

@@ -4,7 +4,6 @@ use Rattle.std.proofs.lemmas.Bool.{cond-false}
 use Rattle.std.proofs.lemmas.Bool.Decides.{nat_tests}
 use Rattle.dimacs_tokens.specs.Numbers.{token_value}
 use Rattle.dimacs_tokens.specs.Seen.{seen_token, is_nil}
-use Rattle.dimacs_front.specs.declared.under.Given.{Given}
 use Rattle.dimacs_front.specs.declared.refused.TextRefused.{TextRefused}
 use Rattle.dimacs_front.specs.declared.refused.TextRefused.TheVariants.{ShowBad, ShowUnended}
 use Rattle.dimacs_front.specs.declared.line_place.LinePlace.TheVariants.{Show}
@@ -13,20 +12,13 @@ use Rattle.dimacs_front.specs.Limits.{most_variables}
 use Rattle.dimacs_front.specs.Steps.{and_then, needs}
 use Rattle.dimacs_front.specs.HeaderLines.{natural}
 use Rattle.dimacs_front.specs.ListLines.{list_says, is_variable}
-use Rattle.dimacs_front.specs.Machine.{WrittenView, StateView, name_once, show_ended, variable_named, refuse, shown_eaten, eaten, closed}
-use Rattle.dimacs_front.proofs.MachineLines.{tokens_said, beginning, named_in, names_behind}
+use Rattle.dimacs_front.specs.Machine.{StateView, name_once, show_ended, variable_named, refuse, shown_eaten, eaten, closed}
+use Rattle.dimacs_front.proofs.MachineLines.{tokens_said, with_names, named_in, names_behind}
 use Rattle.dimacs_front.proofs.Ties.{Met, met_map, refused_line}
 
 -- the machine in a show line
-abbrev pub showing : Bool → WrittenView → Bool → List Given → List Named → StateView
-showing started w given gs named = record {
-  place = Show;
-  started = started;
-  formula = w;
-  given = given;
-  named = named;
-  under = gs;
-}
+abbrev pub showing : StateView → List Named → StateView
+showing s named = record s { place = Show; named = named }
 
 suc_is_some : (v : ℕ) → eqb (suc v) 0 ≡ false
 suc_is_some v = grind (arith, nat_tests)
@@ -35,36 +27,35 @@ abbrev pub shown_list : ℕ → List (Option ℤ) → Result (List ℤ) TextRefu
 shown_list n os = list_says is_variable (ShowBad n) (ShowUnended n) os
 
 -- behind a show line of these values
-abbrev pub below_show : ℕ → Bool → WrittenView → List Given → List Named → List ℤ → StateView
-below_show n started w gs named ls =
-    beginning started w true gs (names_behind n named (map nat_abs ls))
+abbrev pub below_show : ℕ → StateView → List Named → List ℤ → StateView
+below_show n s named ls = with_names s (names_behind n named (map nat_abs ls))
 
-module _ (n : ℕ) (started : Bool) (w : WrittenView) (given : Bool) (gs : List Given) where
+module _ (n : ℕ) (s : StateView) where
   abbrev ends : StateView → List (List ℕ) → StateView
-  ends s ts = closed n (tokens_said n s ts)
+  ends u ts = closed n (tokens_said n u ts)
 
   abbrev Shows : List Named → List (List ℕ) → Type 0
-  Shows named ts = Met (below_show n started w gs named) (shown_list n (map token_value ts)) (ends (showing started w given gs named) ts)
+  Shows named ts = Met (below_show n s named) (shown_list n (map token_value ts)) (ends (showing s named) ts)
 
   -- behind the 0
   zero_met : (named : List Named) (ts : List (List ℕ)) →
-      Met (below_show n started w gs named) (needs (is_nil (map token_value ts)) (ShowBad n) (Ok []))
-      (ends (show_ended (showing started w given gs named)) ts)
+      Met (below_show n s named) (needs (is_nil (map token_value ts)) (ShowBad n) (Ok []))
+      (ends (show_ended (showing s named)) ts)
   unfolding eaten closed
   zero_met named [] = refl
-  zero_met named (t ∷ ts) = refused_line n (refuse (show_ended (showing started w given gs named)) (ShowBad n)) (ShowBad n) ts refl
+  zero_met named (t ∷ ts) = refused_line n (refuse (show_ended (showing s named)) (ShowBad n)) (ShowBad n) ts refl
 
   variable_met : (named : List Named) (v : ℕ) (z m : Bool) (ts : List (List ℕ)) →
       ((ks : List Named) → Shows ks ts) →
-      Met (below_show n started w gs named)
+      Met (below_show n s named)
       (cond z (needs (is_nil (map token_value ts)) (ShowBad n) (Ok [])) (needs m (ShowBad n) (and_then (λ ls. Ok (pos v ∷ ls)) (shown_list n (map token_value ts)))))
-      (ends (cond z (show_ended (showing started w given gs named)) (cond m (variable_named n (showing started w given gs named) v) (refuse (showing started w given gs named) (ShowBad n)))) ts)
+      (ends (cond z (show_ended (showing s named)) (cond m (variable_named n (showing s named) v) (refuse (showing s named) (ShowBad n)))) ts)
   variable_met named v true m ts ih = zero_met named ts
   variable_met named v false true ts ih =
-      met_map (below_show n started w gs named) (λ ls. pos v ∷ ls) (shown_list n (map token_value ts)) (ends (variable_named n (showing started w given gs named) v) ts)
+      met_map (below_show n s named) (λ ls. pos v ∷ ls) (shown_list n (map token_value ts)) (ends (variable_named n (showing s named) v) ts)
       (ih (name_once named (named_in n v)))
   variable_met named v false false ts ih =
-      refused_line n (refuse (showing started w given gs named) (ShowBad n)) (ShowBad n) ts refl
+      refused_line n (refuse (showing s named) (ShowBad n)) (ShowBad n) ts refl
 
   bad_value : (v : ℕ) (x : Result (List ℤ) TextRefused) (z : Result (List ℤ) TextRefused) →
       cond (eqb (suc v) 0) z (needs false (ShowBad n) x) ≡ Err (ShowBad n)
@@ -72,19 +63,19 @@ module _ (n : ℕ) (started : Bool) (w : WrittenView) (given : Bool) (gs : List 
 
   value_met : (named : List Named) (o : Option ℤ) (ts : List (List ℕ)) →
       ((ks : List Named) → Shows ks ts) →
-      Met (below_show n started w gs named) (shown_list n (o ∷ map token_value ts))
-      (ends (shown_eaten n (showing started w given gs named) (natural o)) ts)
+      Met (below_show n s named) (shown_list n (o ∷ map token_value ts))
+      (ends (shown_eaten n (showing s named) (natural o)) ts)
   value_met named None ts ih =
-      refused_line n (refuse (showing started w given gs named) (ShowBad n)) (ShowBad n) ts refl
+      refused_line n (refuse (showing s named) (ShowBad n)) (ShowBad n) ts refl
   value_met named (Some (pos v)) ts ih =
       variable_met named v (eqb v 0) (leb v most_variables) ts ih
   value_met named (Some (negsuc v)) ts ih =
-      subst (λ x. Met (below_show n started w gs named) x (ends (refuse (showing started w given gs named) (ShowBad n)) ts))
+      subst (λ x. Met (below_show n s named) x (ends (refuse (showing s named) (ShowBad n)) ts))
       (sym (bad_value v (and_then (λ ls. Ok (negsuc v ∷ ls)) (shown_list n (map token_value ts))) (needs (is_nil (map token_value ts)) (ShowBad n) (Ok []))))
-      (refused_line n (refuse (showing started w given gs named) (ShowBad n)) (ShowBad n) ts refl)
+      (refused_line n (refuse (showing s named) (ShowBad n)) (ShowBad n) ts refl)
 
   unended : (named : List Named) →
-      Met (below_show n started w gs named) (Err (ShowUnended n)) (closed n (showing started w given gs named))
+      Met (below_show n s named) (Err (ShowUnended n)) (closed n (showing s named))
   unfolding closed
   unended named = refl
 

@@ -1,14 +1,9 @@
 -- The machine over the tokens of a line, and over the variables of a show line.
-use Rattle.std.specs.Prelude.{ℕ, Bool, cond, ◌&&◌, List, [], ◌∷◌, map, fold, codes, Option, Some, None}
-use Rattle.std.specs.Str.{bytes_eq}
-use Rattle.dimacs_tokens.specs.Numbers.{token_value}
+use Rattle.std.specs.Prelude.{ℕ, true, List, map, fold}
 use Rattle.dimacs_tokens.specs.Seen.{seen_token}
-use Rattle.dimacs_front.specs.declared.refused.TextRefused.TheVariants.{BadHeader}
 use Rattle.dimacs_front.specs.declared.line_place.LinePlace.TheVariants.{Beginning}
 use Rattle.dimacs_front.specs.declared.shown.Named.{Named}
-use Rattle.dimacs_front.specs.HeaderLines.{natural}
-use Rattle.dimacs_front.specs.declared.under.Given.{Given}
-use Rattle.dimacs_front.specs.Machine.{WrittenView, StateView, name_once, refuse, eaten, header_ended, closed, at_place}
+use Rattle.dimacs_front.specs.Machine.{StateView, name_once, eaten, closed, at_place}
 
 -- these tokens of line n, and so the whole line
 abbrev pub tokens_said : ℕ → StateView → List (List ℕ) → StateView
@@ -21,15 +16,9 @@ line_said n s ts = closed n (tokens_said n s ts)
 abbrev pub at_beginning : StateView → StateView
 at_beginning s = at_place s Beginning
 
-abbrev pub beginning : Bool → WrittenView → Bool → List Given → List Named → StateView
-beginning started w given gs named = record {
-  place = Beginning;
-  started = started;
-  formula = w;
-  given = given;
-  named = named;
-  under = gs;
-}
+-- behind a show line
+abbrev pub with_names : StateView → List Named → StateView
+with_names s named = record s { place = Beginning; given = true; named = named }
 
 -- the names behind a show line of these variables
 abbrev pub named_in : ℕ → ℕ → Named

@@ -11,13 +11,14 @@ use Rattle.dimacs_front.specs.Limits.{most_clauses, most_literals}
 use Rattle.dimacs_front.specs.HeaderLines.{Below}
 use Rattle.dimacs_front.specs.NumberLines.{literals_of, clause_ended, literal_added, number_says, numbers_say}
 use Rattle.dimacs_front.specs.ListLines.{ListLine}
+use Rattle.dimacs_front.specs.SavedTexts.{SavedSaid}
 use Rattle.dimacs_front.specs.Machine.{StateView, in_clauses, number_eaten, eaten, closed}
 use Rattle.dimacs_front.proofs.MachineLines.{tokens_said}
 use Rattle.dimacs_front.proofs.Ties.{counted, standing, Met, met_either, met_more, met_closed}
 
-module _ (n : ℕ) (ms : List ListLine) (gs : List Given) where
+module _ (n : ℕ) (ms : List ListLine) (gs : List Given) (k : SavedSaid) where
   abbrev pub among : Below → StateView
-  among w = standing Numbers (Some w) ms gs
+  among w = standing Numbers (Some w) ms gs k
 
   ended_counts : (w : Below) → literals_of w ≡ literals_of (clause_ended w)
   ended_counts w = omega (arith, sum_by-append length w.clauses (w.open_clause ∷ []))
@@ -26,7 +27,7 @@ module _ (n : ℕ) (ms : List ListLine) (gs : List Given) where
   added_counts w l = omega (arith, length_push w.open_clause l)
 
   pub number_met : (p : LinePlace) (w : Below) (o : Option ℤ) →
-      Met among (number_says n w o) (number_eaten n (standing p (Some w) ms gs) o)
+      Met among (number_says n w o) (number_eaten n (standing p (Some w) ms gs k) o)
   number_met p w None = refl
   number_met p w (Some l) =
       met_either among (eqb (nat_abs l) 0) _ _ _ _
@@ -49,16 +50,16 @@ module _ (n : ℕ) (ms : List ListLine) (gs : List Given) where
       (number_met Numbers w (token_value t))
       (λ v. numbers_met v ts)
 
-  among_ends : (w : Below) → closed n (among w) ≡ standing Beginning (Some w) ms gs
+  among_ends : (w : Below) → closed n (among w) ≡ standing Beginning (Some w) ms gs k
   unfolding closed
   among_ends w = refl
 
   -- the line, by its first value
   pub number_line_met : (w : Below) (o : Option ℤ) (ts : List (List ℕ)) →
-      Met (λ v. standing Beginning (Some v) ms gs) (numbers_say n w (o ∷ map token_value ts))
-      (closed n (tokens_said n (number_eaten n (standing Beginning (Some w) ms gs) o) ts))
+      Met (λ v. standing Beginning (Some v) ms gs k) (numbers_say n w (o ∷ map token_value ts))
+      (closed n (tokens_said n (number_eaten n (standing Beginning (Some w) ms gs k) o) ts))
   number_line_met w o ts =
-      met_closed among (λ v. standing Beginning (Some v) ms gs) n (numbers_say n w (o ∷ map token_value ts)) _
+      met_closed among (λ v. standing Beginning (Some v) ms gs k) n (numbers_say n w (o ∷ map token_value ts)) _
       (met_more among among n (λ v. numbers_say n v (map token_value ts)) (number_says n w o) _ ts
       (number_met Beginning w o)
       (λ v. numbers_met v ts))

@@ -1,5 +1,6 @@
 -- The show lines are kept with rising numbers.
 use Rattle.std.proofs.Common.{◌≡◌, ℕ, ◌+◌, ◌<◌, ◌≤◌, Bool, true, false, not, cond, ◌&&◌, ◌||◌, eqb, List, [], ◌∷◌, map, drop, ℤ, Option, Some, None, Result, Ok, Err, refl, sym, subst, arith}
+use Rattle.std.specs.Prelude.{codes}
 use Rattle.std.specs.List.{All, AllPairs}
 use Rattle.std.proofs.lemmas.List.Elements.{All-nil, All-push}
 use Rattle.std.proofs.lemmas.List.Quantifiers.{all_pairs_push}
@@ -12,7 +13,9 @@ use Rattle.dimacs_front.specs.Steps.{and_then, steps}
 use Rattle.dimacs_front.specs.HeaderLines.{Below, header_says}
 use Rattle.dimacs_front.specs.NumberLines.{numbers_say}
 use Rattle.dimacs_front.specs.ListLines.{ListLine, list_says, is_variable, under_says}
-use Rattle.dimacs_front.specs.TextLines.{Said, with_below, with_show, with_given, begins_by, show_words, under_words, saved_words, met_words, comment_says, plain_says, line_says, Lines, no_line, next_line, lines_say}
+use Rattle.dimacs_front.specs.LineWords.{begins_by, words_of, own_words}
+use Rattle.dimacs_front.specs.SavedTexts.{saved_says}
+use Rattle.dimacs_front.specs.TextLines.{Said, with_below, with_show, with_given, with_saved, comment_says, plain_says, line_says, Lines, no_line, next_line, lines_say}
 use Rattle.dimacs_front.specs.TextLaws.{ShowLinesRise}
 
 abbrev is_lower : ListLine → ListLine → Type 0
@@ -62,11 +65,12 @@ module _ (n : ℕ) (s : Said) (h : Rise n s) where
 
   comment_kept : (ts : List (List ℕ)) → Keeps (n + 1) (comment_says (n + 1) s ts)
   comment_kept ts =
-      either (n + 1) (begins_by show_words ts) _ _
+      either (n + 1) (begins_by (words_of (codes "show")) ts) _ _
       (list_kept (list_says is_variable (ShowBad (n + 1)) (ShowUnended (n + 1)) (map token_value (drop 3 ts))))
-      (either (n + 1) (begins_by under_words ts) _ _
+      (either (n + 1) (begins_by (words_of (codes "under")) ts) _ _
       (each (n + 1) (with_given s) (under_says (n + 1) (map token_value (drop 3 ts))) (λ m. same (with_given s m) refl))
-      (either (n + 1) (not (eqb (n + 1) 1 && (begins_by saved_words ts || begins_by met_words ts))) (Ok s) (Err (NotBuilt (n + 1))) (same s refl) tt))
+      (either (n + 1) (not (eqb (n + 1) 1 && begins_by (own_words (codes "met")) ts)) _ (Err (NotBuilt (n + 1)))
+      (each (n + 1) (with_saved s) (saved_says (n + 1) s.saved ts) (λ k. same (with_saved s k) refl)) tt))
 
   plain_kept : (o : Option Below) (t : List ℕ) (ts : List (List ℕ)) →
       Keeps (n + 1) (plain_says (n + 1) s o t ts)

@@ -1,6 +1,7 @@
 -- The sizes of a formula that is read, of which variables its literals are, and how many names are kept.
 use Rattle.std.proofs.Common.{◌≡◌, ℕ, ◌+◌, ◌<◌, ◌≤◌, Bool, true, false, not, cond, eqb, leb, ltb, List, [], ◌∷◌, length, map, ℤ, pos, nat_abs, Option, Some, None, Result, Ok, Err, IfOk, refl, sym, ◌∙◌, subst, arith}
-use Rattle.std.specs.Prelude.{neg_ℤ}
+use Rattle.std.specs.Prelude.{neg_ℤ, codes, ◌&&◌, ◌||◌}
+use Rattle.std.specs.Str.{bytes_eq}
 use Rattle.std.specs.List.{All, sum_by, range_with_len}
 use Rattle.std.specs.List.Sorted.{IsStrictlyIncreasing}
 use Rattle.std.proofs.lemmas.Bool.{leb-true, ltb-true, eqb-false}
@@ -15,24 +16,28 @@ use Rattle.dimacs_tokens.specs.Seen.{SeenView, seen_token, begins_with}
 use Rattle.dimacs_tokens.specs.Reading.{eats, line_read, lines_read}
 use Rattle.sat_terms.specs.Literals.{IsLiteralOf}
 use Rattle.dimacs_front.specs.declared.refused.TextRefused.{TextRefused}
-use Rattle.dimacs_front.specs.declared.refused.TextRefused.TheVariants.{HeaderTwice, VariableTooLarge, ShowBad, TooManyVariables, TooManyClauses, TooManyLiterals, UnderBad}
+use Rattle.dimacs_front.specs.declared.refused.TextRefused.TheVariants.{HeaderTwice, VariableTooLarge, ShowBad, TooManyVariables, TooManyClauses, TooManyLiterals, UnderBad, SavedBad}
 use Rattle.dimacs_front.specs.declared.refused.ReadRefused.{ReadRefused}
 use Rattle.dimacs_front.specs.declared.line_place.LinePlace.{LinePlace}
 use Rattle.dimacs_front.specs.declared.header_line.HeaderPlace.{HeaderPlace}
 use Rattle.dimacs_front.specs.declared.header_line.HeaderPlace.TheVariants.{Word, Variables, Clauses, End, Broken}
-use Rattle.dimacs_front.specs.declared.line_place.LinePlace.TheVariants.{Beginning, Header, Numbers, Comment, Show, ShowEnd, Under, UnderEnd, Over, Refused}
+use Rattle.dimacs_front.specs.declared.line_place.LinePlace.TheVariants.{Beginning, Header, Numbers, Comment, Show, ShowEnd, Under, UnderEnd, Saved, Over, Refused}
+use Rattle.dimacs_front.specs.declared.saved_lines.SavedList.{SavedList}
+use Rattle.dimacs_front.specs.declared.saved_line.SavedPlace.{SavedPlace}
+use Rattle.dimacs_front.specs.declared.saved_line.SavedPlace.TheVariants as saved
+use Rattle.dimacs_front.specs.declared.saved_line.SavedPlace.TheVariants.{First, Listed, Complete}
 use Rattle.dimacs_front.specs.declared.shown.Named.{Named}
 use Rattle.dimacs_front.specs.declared.under.Given.{Given}
 use Rattle.dimacs_front.specs.declared.input.Input.{Input}
-use Rattle.dimacs_front.specs.TextEnds.{first_misplaced, under_of, input_of}
-use Rattle.sat_terms.specs.Cubes.{has_literal}
+use Rattle.dimacs_front.specs.TextEnds.{first_misplaced, under_of, lowest_outside, input_of}
+use Rattle.sat_terms.specs.Cubes.{has_literal, last_variable}
 use Rattle.sat_terms.specs.Subjects.{IsVariableList}
 use Rattle.dimacs_front.specs.HeaderLines.{natural}
 use Rattle.dimacs_front.specs.Limits.{most_bytes, most_variables, most_clauses, most_literals, most_shown}
 use Rattle.dimacs_front.specs.MachinePlaces.{above_begun, in_comment}
 use Rattle.dimacs_front.specs.MachineComment.{comment_begun}
-use Rattle.dimacs_front.specs.Machine.{WrittenView, nothing_written, clause_written, literal_written, StateView, at_place, refuse, in_clauses, zero_eaten, literal_eaten, number_eaten, show_ended, variable_named, shown_eaten, literal_given, under_eaten, below_begun, line_begun, eaten_at, eaten, below_header, header_ended, closed_at, closed}
-use Rattle.dimacs_front.specs.MachineEnd.{end_refusal, or_named, names_shown, few, with_under, with_shown, by_end, end_of}
+use Rattle.dimacs_front.specs.Machine.{WrittenView, nothing_written, clause_written, literal_written, StateView, at_place, refuse, in_clauses, zero_eaten, literal_eaten, number_eaten, show_ended, variable_named, shown_eaten, literal_given, under_eaten, below_begun, line_begun, eaten_at, eaten, below_header, header_ended, closed_at, closed, literal_listed, listed_eaten, text_named, saved_eaten}
+use Rattle.dimacs_front.specs.MachineEnd.{end_refusal, or_named, names_shown, few, with_saved_lines, with_under, with_shown, by_end, end_of}
 use Rattle.dimacs_front.specs.Whole.{last_line}
 use Rattle.dimacs_front.specs.MachineText.{TextView, text_at_start, eat_token, close_line, text_after, answer_by, answer, machine_reads}
 use Rattle.fault_io.specs.Sources.{SourceView}
@@ -148,10 +153,25 @@ begun_sound : (n : ℕ) (s : StateView) (t : SeenView) → IsSoundState s →
     IsSoundState (line_begun n s t)
 begun_sound n s t h =
     let numbered : IsSoundState (number_eaten n s (value_of t.number)) = number_sound n s (value_of t.number) h in
-    either_sound (begins_with t 99) (at_place s (in_comment n (comment_begun t))) _ h
+    either_sound (begins_with t 99) (at_place s (in_comment s.saved n (comment_begun t))) _ h
     (either_sound s.started (below_begun n s t) (at_place s (above_begun n t))
     (either_sound (begins_with t 112) (refuse s (HeaderTwice n)) _ h (either_sound (begins_with t 37) (at_place s Over) _ h numbered))
     h)
+
+listed_sound : (list : SavedList) (n : ℕ) (s : StateView) (o : Option ℤ) → IsSoundState s →
+    IsSoundState (listed_eaten list n s o)
+listed_sound list n s None h = h
+listed_sound list n s (Some l) h =
+    either_sound (eqb (nat_abs l) 0) _ _ h
+    (either_sound (leb (nat_abs l) most_variables && ltb (last_variable 0 s.lits) (nat_abs l)) (literal_listed s l) (refuse s (SavedBad n)) h h)
+
+saved_sound : (p : SavedPlace) (n : ℕ) (s : StateView) (t : SeenView) → IsSoundState s →
+    IsSoundState (saved_eaten p n s t)
+saved_sound First n s t h =
+    either_sound (bytes_eq t.head (codes "1") || bytes_eq t.head (codes "2")) (text_named s) (refuse s (SavedBad n)) h h
+saved_sound (Listed list) n s t h = listed_sound list n s (value_of t.number) h
+saved_sound Complete n s t h = h
+saved_sound saved.End n s t h = h
 
 eaten_sound-at : (p : LinePlace) (n : ℕ) (s : StateView) (t : SeenView) → IsSoundState s →
     IsSoundState (eaten_at p n s t)
@@ -163,6 +183,7 @@ eaten_sound-at Show n s t h = shown_sound n s (natural (value_of t.number)) h
 eaten_sound-at ShowEnd n s t h = h
 eaten_sound-at Under n s t h = under_sound n s (value_of t.number) h
 eaten_sound-at UnderEnd n s t h = h
+eaten_sound-at (Saved p) n s t h = saved_sound p n s t h
 eaten_sound-at Over n s t h = h
 eaten_sound-at (Refused r) n s t h = h
 
@@ -198,6 +219,10 @@ closed_sound-at Show n s h = h
 closed_sound-at ShowEnd n s h = h
 closed_sound-at Under n s h = h
 closed_sound-at UnderEnd n s h = h
+closed_sound-at (Saved First) n s h = h
+closed_sound-at (Saved (Listed list)) n s h = h
+closed_sound-at (Saved Complete) n s h = h
+closed_sound-at (Saved saved.End) n s h = h
 closed_sound-at Over n s h = h
 closed_sound-at (Refused r) n s h = h
 
@@ -264,7 +289,7 @@ names_are_variables g ms v vs le e = at (leb (length (names_shown g ms v)) most_
 -- the input of a text that ends
 shown_limits : (s : StateView) (vs : List ℕ) → vs ≡ names_shown s.given s.named s.formula.variables →
     length vs ≤ most_shown → IsSound s.formula →
-    IsWithinLimits (input_of s.formula.variables s.formula.clauses vs (under_of s.under vs))
+    IsWithinLimits (input_of s.formula.variables s.formula.clauses vs (under_of s.under vs) s.saved)
 shown_limits s vs e le h =
     let v : ℕ = s.formula.variables in
     let ls : List ℤ = map (λ g. Given.literal g) s.under in
@@ -285,17 +310,24 @@ shown_limits s vs e le h =
       shown = le;
     }
 
+saved_limits : (s : StateView) (input : Input) (vs : List ℕ) (o : Option ℕ) →
+    vs ≡ names_shown s.given s.named s.formula.variables → length vs ≤ most_shown →
+    IsSound s.formula → with_saved_lines s.formula vs (under_of s.under vs) s.saved o ≡ Ok input → IsWithinLimits input
+saved_limits s input vs None e le h k =
+    let same : input_of s.formula.variables s.formula.clauses vs (under_of s.under vs) s.saved ≡ input = cc in
+    subst IsWithinLimits same (shown_limits s vs e le h)
+saved_limits s input vs (Some line) e le h k = absurd (cc)
+
 under_limits : (s : StateView) (input : Input) (vs : List ℕ) (o : Option ℕ) →
     vs ≡ names_shown s.given s.named s.formula.variables → length vs ≤ most_shown →
-    IsSound s.formula → with_under s.formula s.under vs o ≡ Ok input → IsWithinLimits input
+    IsSound s.formula → with_under s.formula s.under s.saved vs o ≡ Ok input → IsWithinLimits input
 under_limits s input vs None e le h k =
-    let same : input_of s.formula.variables s.formula.clauses vs (under_of s.under vs) ≡ input = cc in
-    subst IsWithinLimits same (shown_limits s vs e le h)
+    saved_limits s input vs (lowest_outside vs (under_of s.under vs) s.saved) e le h k
 under_limits s input vs (Some line) e le h k = absurd (cc)
 
 few_limits : (n : ℕ) (s : StateView) (input : Input) (vs : List ℕ) (q : Bool) →
     leb (length vs) most_shown ≡ q → vs ≡ names_shown s.given s.named s.formula.variables →
-    IsSound s.formula → with_shown n s.formula s.under (cond q (Some vs) None) ≡ Ok input →
+    IsSound s.formula → with_shown n s.formula s.under s.saved (cond q (Some vs) None) ≡ Ok input →
     IsWithinLimits input
 few_limits n s input vs true e f h k =
     under_limits s input vs (first_misplaced vs [] s.under) f (leb-true (length vs) most_shown e) h k

@@ -80,7 +80,7 @@ unfolding stops machine_stops
 stops_same bs = stops_at (lines_say (complete bs)) (text_after (complete bs)) (text_follows (complete bs))
 
 answers_at : (x : Result Lines TextRefused) (t : TextView) → Follows x t →
-    and_then (λ j. end_says (last_line j.count) j.said.below j.said.shows j.said.given) x ≡ answer t
+    and_then (λ j. end_says (last_line j.count) j.said j.said.below) x ≡ answer t
 answers_at (Ok j) t h =
     end_met (last_line j.count) j.said ∙ sym (ap answer h)
 answers_at (Err r) t h = ap (λ o. answer_by o t.lines t.state) (sym h)

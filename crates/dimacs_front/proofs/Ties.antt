@@ -10,6 +10,7 @@ use Rattle.dimacs_front.specs.Steps.{and_then}
 use Rattle.dimacs_front.specs.HeaderLines.{Below}
 use Rattle.dimacs_front.specs.NumberLines.{literals_of}
 use Rattle.dimacs_front.specs.ListLines.{ListLine}
+use Rattle.dimacs_front.specs.SavedTexts.{SavedSaid}
 use Rattle.dimacs_front.specs.TextLines.{Said}
 use Rattle.dimacs_front.specs.Machine.{WrittenView, nothing_written, StateView, at_place, closed}
 use Rattle.dimacs_front.proofs.MachineLines.{tokens_said, names_behind}
@@ -38,21 +39,23 @@ is_begun None = false
 is_begun (Some w) = true
 
 -- the machine at a place of the next line
-abbrev pub standing : LinePlace → Option Below → List ListLine → List Given → StateView
-standing p o ms gs = record {
+abbrev pub standing : LinePlace → Option Below → List ListLine → List Given → SavedSaid → StateView
+standing p o ms gs k = record {
   place = p;
   started = is_begun o;
   formula = formula_of o;
   given = not (is_nil ms);
   named = names_of [] ms;
   under = gs;
+  saved = k;
+  lits = [];
 }
 
 abbrev pub place_of : Bool → LinePlace
 place_of over = cond over Over Beginning
 
 abbrev pub state_of : Said → StateView
-state_of s = standing (place_of s.over) s.below s.shows s.given
+state_of s = standing (place_of s.over) s.below s.shows s.given s.saved
 
 -- the machine stands where the definition says, or at its refusal
 abbrev pub Met : {A : Type 0} → (A → StateView) → Result A TextRefused → StateView → Type 0

@@ -1,7 +1,10 @@
 -- What the reading of a text from a source answers.
-use Rattle.std.specs.Prelude.{◌≡◌, ℕ, ◌+◌, ◌<◌, ◌≤◌, ◌⊎◌, List, ◌++◌, length, Option, Some, None, Result, Ok, Err}
+use Rattle.std.specs.Prelude.{◌≡◌, ℕ, ◌+◌, ◌<◌, ◌≤◌, ◌⊎◌, true, List, ◌++◌, length, ℤ, Option, Some, None, Result, Ok, Err}
 use Rattle.dimacs_tokens.specs.Cuts.{complete}
+use Rattle.std.specs.List.{All}
+use Rattle.sat_terms.specs.Cubes.{within, IsCube}
 use Rattle.sat_terms.specs.Subjects.{IsSubject}
+use Rattle.checkpoint.specs.declared.saved.Saved.{Saved}
 use Rattle.fault_io.specs.Bytes.{Consumes, IsAtEnd}
 use Rattle.fault_io.specs.Faults.{Rose}
 use Rattle.fault_io.specs.Sources.{SourceView}
@@ -76,3 +79,13 @@ pub record IsWithinLimits (input : Input) : Type 0 where
   pub subject : IsSubject input.subject.formula.variables input.subject.formula.clauses
       input.subject.shown input.subject.under
   pub shown : length input.subject.shown ≤ most_shown
+
+-- the cubes are over the shown variables, and have all given literals
+pub record AreInside (vs : List ℕ) (u : List ℤ) (cs : List (List ℤ)) : Type 0 where
+  pub over : All (IsCube vs) cs
+  pub inside : All (λ c. within c u ≡ true) cs
+
+-- what a saved text has besides is
+abbrev pub IsSavedOf : List ℕ → List ℤ → Option Saved → Type 0
+IsSavedOf vs u None = Unit {0}
+IsSavedOf vs u (Some saved) = AreInside vs u saved.cubes × AreInside vs u saved.pending

@@ -1,6 +1,7 @@
 pub mod Answers
 pub mod HeaderLines
 pub mod Limits
+pub mod LineWords
 pub mod ListLines
 pub mod Machine
 pub mod MachineComment
@@ -12,6 +13,7 @@ pub mod MachineUnder
 pub mod NumberLines
 pub mod Numbering
 pub mod Pieces
+pub mod SavedTexts
 pub mod Steps
 pub mod TextEnds
 pub mod TextLaws

@@ -1,19 +1,26 @@
 -- The reader's machine: what a token does to it, and what the end of a line does. Here n is the
 -- line's number, counted from 1.
-use Rattle.std.specs.Prelude.{ℕ, Bool, true, false, cond, ◌==◌, nat_le, nat_lt, List, [], ◌∷◌, ◌++◌, length, ◌+◌, ℤ, nat_abs, Option, Some, None}
+use Rattle.std.specs.Prelude.{ℕ, Bool, true, false, cond, ◌==◌, ◌&&◌, ◌||◌, nat_le, nat_lt, codes, List, [], ◌∷◌, ◌++◌, length, ◌+◌, ℤ, nat_abs, Option, Some, None}
 use Rattle.std.specs.List.{list_any}
+use Rattle.std.specs.Str.{bytes_eq}
 use Rattle.dimacs_tokens.specs.Numbers.{value_of}
 use Rattle.dimacs_tokens.specs.Seen.{SeenView, begins_with}
 use Rattle.dimacs_front.specs.declared.refused.TextRefused.{TextRefused}
-use Rattle.dimacs_front.specs.declared.refused.TextRefused.TheVariants.{BadHeader, HeaderTwice, BadNumber, VariableTooLarge, ShowBad, ShowUnended, TooManyVariables, TooManyClauses, TooManyLiterals, UnderBad}
+use Rattle.dimacs_front.specs.declared.refused.TextRefused.TheVariants.{BadHeader, HeaderTwice, BadNumber, VariableTooLarge, ShowBad, ShowUnended, TooManyVariables, TooManyClauses, TooManyLiterals, UnderBad, SavedBad}
 use Rattle.dimacs_front.specs.declared.line_place.LinePlace.{LinePlace}
 use Rattle.dimacs_front.specs.declared.header_line.HeaderPlace.{HeaderPlace}
 use Rattle.dimacs_front.specs.declared.header_line.HeaderPlace.TheVariants.{End}
-use Rattle.dimacs_front.specs.declared.line_place.LinePlace.TheVariants.{Beginning, Header, Numbers, Comment, Show, ShowEnd, Under, UnderEnd, Over, Refused}
+use Rattle.dimacs_front.specs.declared.saved_lines.SavedList.{SavedList}
+use Rattle.dimacs_front.specs.declared.saved_line.SavedPlace.{SavedPlace}
+use Rattle.dimacs_front.specs.declared.saved_line.SavedPlace.TheVariants as saved
+use Rattle.dimacs_front.specs.declared.saved_line.SavedPlace.TheVariants.{First, Listed, Complete}
+use Rattle.dimacs_front.specs.declared.line_place.LinePlace.TheVariants.{Beginning, Header, Numbers, Comment, Show, ShowEnd, Under, UnderEnd, Saved, Over, Refused}
 use Rattle.dimacs_front.specs.declared.shown.Named.{Named}
 use Rattle.dimacs_front.specs.declared.under.Given.{Given}
 use Rattle.dimacs_front.specs.Limits.{most_variables, most_clauses, most_literals}
 use Rattle.dimacs_front.specs.HeaderLines.{natural}
+use Rattle.sat_terms.specs.Cubes.{last_variable}
+use Rattle.dimacs_front.specs.SavedTexts.{SavedSaid, nothing_saved, with_line}
 use Rattle.dimacs_front.specs.MachineHeader.{header_after}
 use Rattle.dimacs_front.specs.MachineComment.{comment_begun, comment_after}
 use Rattle.dimacs_front.specs.MachinePlaces.{comment_byte, header_byte, percent, above_begun, in_comment, place_closed}
@@ -49,7 +56,8 @@ abbrev pub name_once : List Named → Named → List Named
 name_once ms m = cond (is_named ms m.variable) ms (ms ++ m ∷ [])
 
 -- the place in the line, whether there was a header, the formula below it, whether a show line was
--- ended, and the variables of all show lines, each with the first line that names it
+-- ended, the variables of all show lines, each with the first line that names it, the literals of
+-- the under lines, the lines of a saved text's own, and the literals of the open one of these
 pub record StateView : Type 0 where
   pub place : LinePlace
   pub started : Bool
@@ -57,6 +65,8 @@ pub record StateView : Type 0 where
   pub given : Bool
   pub named : List Named
   pub under : List Given
+  pub saved : SavedSaid
+  pub lits : List ℤ
 
 abbrev pub nothing_said_yet : StateView
 nothing_said_yet = record {
@@ -66,6 +76,8 @@ nothing_said_yet = record {
   given = false;
   named = [];
   under = [];
+  saved = nothing_saved;
+  lits = [];
 }
 
 -- the state at another place
@@ -124,6 +136,42 @@ under_eaten n s (Some l) =
     (at_place s UnderEnd)
     (cond (nat_le (nat_abs l) most_variables) (literal_given n s l) (refuse s (UnderBad n)))
 
+-- a token of a cube line or an open line: literals whose variables rise, and a 0 that ends them
+abbrev pub literal_listed : StateView → ℤ → StateView
+literal_listed s l = record s { lits = s.lits ++ l ∷ [] }
+
+abbrev pub list_ended : SavedList → ℕ → StateView → StateView
+list_ended list n s = record s {
+  place = Saved Complete;
+  saved = with_line list s.saved (record { line = n; cube = s.lits });
+  lits = [];
+}
+
+abbrev pub listed_eaten : SavedList → ℕ → StateView → Option ℤ → StateView
+listed_eaten list n s None = refuse s (SavedBad n)
+listed_eaten list n s (Some l) =
+    cond (nat_abs l == 0)
+    (list_ended list n s)
+    (cond (nat_le (nat_abs l) most_variables && nat_lt (last_variable 0 s.lits) (nat_abs l))
+    (literal_listed s l)
+    (refuse s (SavedBad n)))
+
+-- the version of a saved text
+abbrev pub text_named : StateView → StateView
+text_named s = record s { place = Saved Complete; saved = record s.saved { named = true } }
+
+abbrev pub version_eaten : ℕ → StateView → SeenView → StateView
+version_eaten n s t =
+    cond (bytes_eq t.head (codes "1") || bytes_eq t.head (codes "2"))
+    (text_named s)
+    (refuse s (SavedBad n))
+
+abbrev pub saved_eaten : SavedPlace → ℕ → StateView → SeenView → StateView
+saved_eaten First n s t = version_eaten n s t
+saved_eaten (Listed list) n s t = listed_eaten list n s (value_of t.number)
+saved_eaten Complete n s t = refuse s (SavedBad n)
+saved_eaten saved.End n s t = refuse s (SavedBad n)
+
 -- the first token of a line below the header: `p` begins a second header, and `%` ends the formula
 abbrev pub below_begun : ℕ → StateView → SeenView → StateView
 below_begun n s t =
@@ -135,7 +183,7 @@ below_begun n s t =
 abbrev pub line_begun : ℕ → StateView → SeenView → StateView
 line_begun n s t =
     cond (begins_with t comment_byte)
-    (at_place s (in_comment n (comment_begun t)))
+    (at_place s (in_comment s.saved n (comment_begun t)))
     (cond s.started (below_begun n s t) (at_place s (above_begun n t)))
 
 -- a token in a line at this place
@@ -143,11 +191,12 @@ abbrev pub eaten_at : LinePlace → ℕ → StateView → SeenView → StateView
 eaten_at Beginning n s t = line_begun n s t
 eaten_at (Header h) n s t = at_place s (Header (header_after h t))
 eaten_at Numbers n s t = number_eaten n s (value_of t.number)
-eaten_at (Comment c) n s t = at_place s (in_comment n (comment_after c n t))
+eaten_at (Comment c) n s t = at_place s (in_comment s.saved n (comment_after c n t))
 eaten_at Show n s t = shown_eaten n s (natural (value_of t.number))
 eaten_at ShowEnd n s t = refuse s (ShowBad n)
 eaten_at Under n s t = under_eaten n s (value_of t.number)
 eaten_at UnderEnd n s t = refuse s (UnderBad n)
+eaten_at (Saved p) n s t = saved_eaten p n s t
 eaten_at Over n s t = s
 eaten_at (Refused r) n s t = s
 
@@ -172,8 +221,13 @@ abbrev pub header_ended : HeaderPlace → ℕ → StateView → StateView
 header_ended (End v c) n s = formula_begun n s v c
 header_ended h n s = refuse s (BadHeader n)
 
+-- the end line of a saved text ends
+abbrev pub text_ended : StateView → StateView
+text_ended s = record s { place = Beginning; saved = record s.saved { ended = true } }
+
 abbrev pub closed_at : LinePlace → ℕ → StateView → StateView
 closed_at (Header h) n s = header_ended h n s
+closed_at (Saved saved.End) n s = text_ended s
 closed_at p n s = at_place s (place_closed p n)
 
 unfoldable pub closed : ℕ → StateView → StateView

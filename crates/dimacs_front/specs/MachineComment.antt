@@ -1,9 +1,9 @@
 -- The machine in a comment line. Here n is the line's number.
-use Rattle.std.specs.Prelude.{ℕ, cond, ◌&&◌, ◌||◌, ◌==◌, codes}
+use Rattle.std.specs.Prelude.{ℕ, cond, ◌&&◌, ◌==◌, codes}
 use Rattle.std.specs.Str.{bytes_eq}
 use Rattle.dimacs_tokens.specs.Seen.{SeenView}
 use Rattle.dimacs_front.specs.declared.comment_line.CommentPlace.{CommentPlace}
-use Rattle.dimacs_front.specs.declared.comment_line.CommentPlace.TheVariants.{Word, Parted, Named, Show, Under, Own, Passed}
+use Rattle.dimacs_front.specs.declared.comment_line.CommentPlace.TheVariants.{Word, Parted, Named, Show, Under, Cube, Open, End, Saved, Met, Passed}
 
 abbrev pub comment_begun : SeenView → CommentPlace
 comment_begun t = cond (bytes_eq t.head (codes "c")) Word Passed
@@ -13,10 +13,12 @@ comment_after Word n t =
     cond (bytes_eq t.head (codes "p")) Parted
     (cond ((n == 1) && bytes_eq t.head (codes "allsat")) Named Passed)
 comment_after Parted n t =
-    cond (bytes_eq t.head (codes "show")) Show (cond (bytes_eq t.head (codes "under")) Under Passed)
+    cond (bytes_eq t.head (codes "show")) Show
+    (cond (bytes_eq t.head (codes "under")) Under
+    (cond (bytes_eq t.head (codes "cube")) Cube
+    (cond (bytes_eq t.head (codes "open")) Open
+    (cond (bytes_eq t.head (codes "end")) End Passed))))
 comment_after Named n t =
-    cond (bytes_eq t.head (codes "saved") || bytes_eq t.head (codes "met")) Own Passed
-comment_after Show n t = Passed
-comment_after Under n t = Passed
-comment_after Own n t = Passed
-comment_after Passed n t = Passed
+    cond (bytes_eq t.head (codes "met")) Met
+    (cond (bytes_eq t.head (codes "saved")) Saved Passed)
+comment_after c n t = Passed

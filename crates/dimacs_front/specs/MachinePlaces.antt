@@ -3,11 +3,15 @@
 use Rattle.std.specs.Prelude.{ℕ, cond, Option, Some, None}
 use Rattle.dimacs_tokens.specs.Seen.{SeenView, begins_with}
 use Rattle.dimacs_front.specs.declared.refused.TextRefused.{TextRefused}
-use Rattle.dimacs_front.specs.declared.refused.TextRefused.TheVariants.{BadStart, ShowUnended, UnderUnended, NotBuilt}
+use Rattle.dimacs_front.specs.declared.refused.TextRefused.TheVariants.{BadStart, ShowUnended, UnderUnended, SavedBad, NotBuilt}
 use Rattle.dimacs_front.specs.declared.comment_line.CommentPlace.{CommentPlace}
 use Rattle.dimacs_front.specs.declared.comment_line.CommentPlace.TheVariants as comment
+use Rattle.dimacs_front.specs.declared.saved_lines.SavedList.TheVariants.{Cubes, Pending}
+use Rattle.dimacs_front.specs.declared.saved_line.SavedPlace.{SavedPlace}
+use Rattle.dimacs_front.specs.declared.saved_line.SavedPlace.TheVariants.{First, Listed, End}
 use Rattle.dimacs_front.specs.declared.line_place.LinePlace.{LinePlace}
-use Rattle.dimacs_front.specs.declared.line_place.LinePlace.TheVariants.{Beginning, Header, Comment, Show, Under, Over, Refused}
+use Rattle.dimacs_front.specs.declared.line_place.LinePlace.TheVariants.{Beginning, Header, Comment, Show, Under, Saved, Over, Refused}
+use Rattle.dimacs_front.specs.SavedTexts.{SavedSaid}
 use Rattle.dimacs_front.specs.MachineHeader.{header_begun}
 
 -- the bytes that begin a comment, a header, and the line that ends the formula: `c`, `p` and `%`
@@ -24,15 +28,25 @@ percent = 37
 abbrev pub above_begun : ℕ → SeenView → LinePlace
 above_begun n t = cond (begins_with t header_byte) (Header (header_begun t)) (Refused (BadStart n))
 
+-- in a line that a saved text has of its own: other texts pass over it, and none stands behind the
+-- end line
+abbrev pub own_place : SavedSaid → ℕ → SavedPlace → LinePlace
+own_place k n p =
+    cond k.named (cond k.ended (Refused (SavedBad n)) (Saved p)) (Comment comment.Passed)
+
 -- in a comment with these words
-abbrev pub in_comment : ℕ → CommentPlace → LinePlace
-in_comment n comment.Word = Comment comment.Word
-in_comment n comment.Parted = Comment comment.Parted
-in_comment n comment.Named = Comment comment.Named
-in_comment n comment.Show = Show
-in_comment n comment.Under = Under
-in_comment n comment.Own = Refused (NotBuilt n)
-in_comment n comment.Passed = Comment comment.Passed
+abbrev pub in_comment : SavedSaid → ℕ → CommentPlace → LinePlace
+in_comment k n comment.Word = Comment comment.Word
+in_comment k n comment.Parted = Comment comment.Parted
+in_comment k n comment.Named = Comment comment.Named
+in_comment k n comment.Show = Show
+in_comment k n comment.Under = Under
+in_comment k n comment.Cube = own_place k n (Listed Cubes)
+in_comment k n comment.Open = own_place k n (Listed Pending)
+in_comment k n comment.End = own_place k n End
+in_comment k n comment.Saved = Saved First
+in_comment k n comment.Met = Refused (NotBuilt n)
+in_comment k n comment.Passed = Comment comment.Passed
 
 -- the refusal of the line, if there is one
 abbrev pub refusal_at : LinePlace → Option TextRefused
@@ -43,6 +57,8 @@ refusal_at p = None
 abbrev pub place_closed : LinePlace → ℕ → LinePlace
 place_closed Show n = Refused (ShowUnended n)
 place_closed Under n = Refused (UnderUnended n)
+place_closed (Saved First) n = Refused (SavedBad n)
+place_closed (Saved (Listed l)) n = Refused (SavedBad n)
 place_closed Over n = Over
 place_closed (Refused r) n = Refused r
 place_closed p n = Beginning

@@ -1,7 +1,7 @@
 -- The numbers, the names and the lines of refusals.
 use Rattle.std.specs.Prelude.{ℕ, List, codes}
 use Rattle.dimacs_front.specs.declared.refused.TextRefused.{TextRefused}
-use Rattle.dimacs_front.specs.declared.refused.TextRefused.TheVariants.{BadStart, BadHeader, HeaderTwice, NoHeader, BadNumber, VariableTooLarge, Unfinished, ClauseCount, ShowBad, ShowUnended, TooManyVariables, TooManyClauses, TooManyLiterals, TooManyShown, TextTooLong, NotBuilt, UnderBad, UnderUnended}
+use Rattle.dimacs_front.specs.declared.refused.TextRefused.TheVariants.{BadStart, BadHeader, HeaderTwice, NoHeader, BadNumber, VariableTooLarge, Unfinished, ClauseCount, ShowBad, ShowUnended, TooManyVariables, TooManyClauses, TooManyLiterals, TooManyShown, TextTooLong, SavedBad, SavedUnended, NotBuilt, UnderBad, UnderUnended}
 
 -- the number that notes to the user give
 abbrev pub number_of : TextRefused → ℕ
@@ -20,6 +20,8 @@ number_of (TooManyClauses line) = 12
 number_of (TooManyLiterals line) = 13
 number_of (TooManyShown line) = 14
 number_of (TextTooLong line) = 15
+number_of (SavedBad line) = 16
+number_of (SavedUnended line) = 17
 number_of (NotBuilt line) = 20
 number_of (UnderBad line) = 21
 number_of (UnderUnended line) = 22
@@ -41,6 +43,8 @@ name_of (TooManyClauses line) = codes "TooManyClauses"
 name_of (TooManyLiterals line) = codes "TooManyLiterals"
 name_of (TooManyShown line) = codes "TooManyShown"
 name_of (TextTooLong line) = codes "TextTooLong"
+name_of (SavedBad line) = codes "SavedBad"
+name_of (SavedUnended line) = codes "SavedUnended"
 name_of (NotBuilt line) = codes "NotBuilt"
 name_of (UnderBad line) = codes "UnderBad"
 name_of (UnderUnended line) = codes "UnderUnended"
@@ -62,6 +66,8 @@ line_of (TooManyClauses line) = line
 line_of (TooManyLiterals line) = line
 line_of (TooManyShown line) = line
 line_of (TextTooLong line) = line
+line_of (SavedBad line) = line
+line_of (SavedUnended line) = line
 line_of (NotBuilt line) = line
 line_of (UnderBad line) = line
 line_of (UnderUnended line) = line

@@ -1,17 +1,21 @@
 -- What a text says at its end, where no line of it is refused. Here n is the number of the last
 -- line.
 use Rattle.std.specs.Prelude.{ℕ, Bool, not, cond, ◌==◌, ◌&&◌, ◌||◌, nat_le, List, [], ◌∷◌, ◌++◌, length, map, flat_map, ℤ, pos, neg_ℤ, nat_abs, Option, Some, None, Result, Ok, Err}
-use Rattle.std.specs.List.{list_any, filter, range_with_len}
+use Rattle.std.specs.List.{list_any, list_all, filter, range_with_len}
 use Rattle.dimacs_tokens.specs.Seen.{is_nil}
 use Rattle.dimacs_front.specs.declared.refused.TextRefused.{TextRefused}
-use Rattle.dimacs_front.specs.declared.refused.TextRefused.TheVariants.{NoHeader, Unfinished, ClauseCount, ShowBad, TooManyShown, UnderBad}
-use Rattle.sat_terms.specs.Cubes.{is_among, has_literal}
+use Rattle.dimacs_front.specs.declared.refused.TextRefused.TheVariants.{NoHeader, Unfinished, ClauseCount, ShowBad, TooManyShown, UnderBad, SavedBad, SavedUnended}
+use Rattle.sat_terms.specs.Cubes.{is_among, has_literal, within}
+use Rattle.checkpoint.specs.declared.saved.Saved.{Saved}
 use Rattle.dimacs_front.specs.declared.under.Given.{Given}
+use Rattle.dimacs_front.specs.declared.saved_lines.SavedLine.{SavedLine}
 use Rattle.dimacs_front.specs.declared.input.Input.{Input}
 use Rattle.dimacs_front.specs.Limits.{most_shown}
 use Rattle.dimacs_front.specs.Steps.{needs, unless}
 use Rattle.dimacs_front.specs.HeaderLines.{Below}
 use Rattle.dimacs_front.specs.ListLines.{ListLine}
+use Rattle.dimacs_front.specs.SavedTexts.{SavedSaid}
+use Rattle.dimacs_front.specs.TextLines.{Said}
 
 -- a variable is shown where a show line holds it, and where there is no show line
 abbrev pub is_shown : List ListLine → ℕ → Bool
@@ -48,24 +52,56 @@ given_for ls v =
 abbrev pub under_of : List Given → List ℕ → List ℤ
 under_of gs vs = flat_map (given_for (map (λ g. Given.literal g) gs)) vs
 
-abbrev pub input_of : ℕ → List (List ℤ) → List ℕ → List ℤ → Input
-input_of v cs vs u = record {
+-- a cube can be saved where its variables are shown, and it has all given literals
+abbrev pub is_saved_cube : List ℕ → List ℤ → List ℤ → Bool
+is_saved_cube vs u c = list_all (λ l. is_among vs (nat_abs l)) c && within c u
+
+-- the number of the first line whose cube cannot
+abbrev pub first_outside : List ℕ → List ℤ → List SavedLine → Option ℕ
+first_outside vs u [] = None
+first_outside vs u (m ∷ ms) =
+    cond (is_saved_cube vs u m.cube) (first_outside vs u ms) (Some m.line)
+
+-- the lower one of two lines, where there are two
+abbrev pub lower_line : Option ℕ → Option ℕ → Option ℕ
+lower_line None o = o
+lower_line (Some m) None = Some m
+lower_line (Some m) (Some n) = Some (cond (nat_le m n) m n)
+
+abbrev pub lowest_outside : List ℕ → List ℤ → SavedSaid → Option ℕ
+lowest_outside vs u k = lower_line (first_outside vs u k.cubes) (first_outside vs u k.pending)
+
+-- what is saved, where the text is a saved text
+abbrev pub cubes_of : List SavedLine → List (List ℤ)
+cubes_of ms = map (λ m. SavedLine.cube m) ms
+
+abbrev pub saved_of : SavedSaid → Option Saved
+saved_of k =
+    cond k.named (Some (record { cubes = cubes_of k.cubes; pending = cubes_of k.pending })) None
+
+abbrev pub input_of : ℕ → List (List ℤ) → List ℕ → List ℤ → SavedSaid → Input
+input_of v cs vs u k = record {
   subject = record { formula = record { variables = v; clauses = cs }; shown = vs; under = u };
+  saved = saved_of k;
 }
 
-abbrev pub shown_says : ℕ → Below → List Given → List ℕ → Result Input TextRefused
-shown_says n w gs vs =
+abbrev pub shown_says : ℕ → Below → List Given → SavedSaid → List ℕ → Result Input TextRefused
+shown_says n w gs k vs =
     needs (nat_le (length vs) most_shown) (TooManyShown n)
     (unless (first_misplaced vs [] gs) UnderBad
-    (Ok (input_of w.variables w.clauses vs (under_of gs vs))))
+    (unless (lowest_outside vs (under_of gs vs) k) SavedBad
+    (Ok (input_of w.variables w.clauses vs (under_of gs vs) k))))
 
-abbrev pub below_says : ℕ → Below → List ListLine → List Given → Result Input TextRefused
-below_says n w ms gs =
+-- a saved text has its end line
+abbrev pub below_says : ℕ → Below → List ListLine → List Given → SavedSaid →
+    Result Input TextRefused
+below_says n w ms gs k =
     needs (is_nil w.open_clause) (Unfinished n)
+    (needs (not k.named || k.ended) (SavedUnended n)
     (needs (length w.clauses == w.said) (ClauseCount n w.said (length w.clauses))
     (unless (first_above w.variables ms) ShowBad
-    (shown_says n w gs (shown_of w ms))))
+    (shown_says n w gs k (shown_of w ms)))))
 
-abbrev pub end_says : ℕ → Option Below → List ListLine → List Given → Result Input TextRefused
-end_says n None ms gs = Err (NoHeader n)
-end_says n (Some w) ms gs = below_says n w ms gs
+abbrev pub end_says : ℕ → Said → Option Below → Result Input TextRefused
+end_says n s None = Err (NoHeader n)
+end_says n s (Some w) = below_says n w s.shows s.given s.saved

@@ -1,5 +1,5 @@
 -- What the definitions of lines and texts do not show by themselves.
-use Rattle.std.specs.Prelude.{◌≡◌, ℕ, ◌+◌, ◌<◌, ◌≤◌, ℤ, pos, nat_abs, Bool, true, false, not, cond, ◌==◌, List, [], ◌∷◌, ◌++◌, length, map, fold, Option, Some, None, Ok, Err}
+use Rattle.std.specs.Prelude.{◌≡◌, ℕ, ◌+◌, ◌<◌, ◌≤◌, ℤ, pos, nat_abs, Bool, true, false, not, cond, ◌==◌, List, [], ◌∷◌, ◌++◌, length, map, fold, Option, Some, None, Ok, Err, codes}
 use Rattle.std.specs.List.{All, AllPairs}
 use Rattle.dimacs_tokens.specs.Numbers.{token_value}
 use Rattle.dimacs_tokens.specs.Seen.{list_begins}
@@ -10,7 +10,9 @@ use Rattle.dimacs_front.specs.Limits.{most_variables, most_clauses, most_literal
 use Rattle.dimacs_front.specs.HeaderLines.{Below}
 use Rattle.dimacs_front.specs.NumberLines.{literals_of, clause_ended, literal_added, number_says, numbers_say}
 use Rattle.dimacs_front.specs.ListLines.{ListLine, is_variable, show_says}
-use Rattle.dimacs_front.specs.TextLines.{Said, show_words, line_says, Lines, lines_say}
+use Rattle.dimacs_front.specs.LineWords.{words_of}
+use Rattle.dimacs_front.specs.SavedTexts.{SavedSaid}
+use Rattle.dimacs_front.specs.TextLines.{Said, line_says, Lines, lines_say}
 use Rattle.dimacs_front.specs.MachineText.{text_after}
 
 -- ---- lines of numbers
@@ -32,10 +34,17 @@ pub record HasRoom (w : Below) (ls : List ℤ) : Type 0 where
 -- a line of number tokens says just these numbers
 abbrev pub ALineOfNumbersSaysThese : Type 0
 ALineOfNumbersSaysThese =
-    (n : ℕ) (w : Below) (ms : List ListLine) (gs : List Given) (ts : List (List ℕ)) (ls : List ℤ) →
+    (n : ℕ) (w : Below) (ms : List ListLine) (gs : List Given) (k : SavedSaid)
+    (ts : List (List ℕ)) (ls : List ℤ) →
     map token_value ts ≡ map (λ l. Some l) ls → HasRoom w ls →
-    line_says n (record { below = Some w; shows = ms; given = gs; over = false }) ts ≡
-    Ok (record { below = Some (numbers_written w ls); shows = ms; given = gs; over = false })
+    line_says n (record { below = Some w; shows = ms; given = gs; saved = k; over = false }) ts ≡
+    Ok (record {
+      below = Some (numbers_written w ls);
+      shows = ms;
+      given = gs;
+      saved = k;
+      over = false;
+    })
 
 -- the first refused number counts: it is refused by what those before it say, and those behind it
 -- change nothing
@@ -56,14 +65,16 @@ variables vs = map (λ v. Some (pos v)) vs
 -- a show line of variables, which a 0 ends, shows just these, above the header and below
 abbrev pub AShowLineShowsItsVariables : Type 0
 AShowLineShowsItsVariables =
-    (n : ℕ) (o : Option Below) (ms : List ListLine) (gs : List Given) (ts : List (List ℕ))
-    (vs : List ℕ) →
+    (n : ℕ) (o : Option Below) (ms : List ListLine) (gs : List Given) (k : SavedSaid)
+    (ts : List (List ℕ)) (vs : List ℕ) →
     map token_value ts ≡ variables vs ++ Some (pos 0) ∷ [] → All IsVariable vs →
-    line_says n (record { below = o; shows = ms; given = gs; over = false }) (show_words ++ ts) ≡
+    line_says n (record { below = o; shows = ms; given = gs; saved = k; over = false })
+    (words_of (codes "show") ++ ts) ≡
     Ok (record {
       below = o;
       shows = ms ++ record { line = n; values = map (λ v. pos v) vs } ∷ [];
       given = gs;
+      saved = k;
       over = false;
     })
 
@@ -99,13 +110,14 @@ ALineWithoutTokensChangesNothing = (n : ℕ) (s : Said) → line_says n s [] ≡
 -- that changes anything
 abbrev pub TheFormulaEndsAtAPercent : Type 0
 TheFormulaEndsAtAPercent =
-    (n m : ℕ) (w : Below) (ms : List ListLine) (gs : List Given) (t : List ℕ)
-    (ts us : List (List ℕ)) →
+    (n m : ℕ) (w : Below) (ms : List ListLine) (gs : List Given) (k : SavedSaid)
+    (t : List ℕ) (ts us : List (List ℕ)) →
     list_begins t 37 ≡ true →
-    (line_says n (record { below = Some w; shows = ms; given = gs; over = false }) (t ∷ ts) ≡
-    Ok (record { below = Some w; shows = ms; given = gs; over = true }))
-    × (line_says m (record { below = Some w; shows = ms; given = gs; over = true }) us ≡
-    Ok (record { below = Some w; shows = ms; given = gs; over = true }))
+    (line_says n (record { below = Some w; shows = ms; given = gs; saved = k; over = false })
+    (t ∷ ts) ≡
+    Ok (record { below = Some w; shows = ms; given = gs; saved = k; over = true }))
+    × (line_says m (record { below = Some w; shows = ms; given = gs; saved = k; over = true }) us ≡
+    Ok (record { below = Some w; shows = ms; given = gs; saved = k; over = true }))
 
 -- the lowest refused line counts: lines behind it change nothing
 abbrev pub TheLowestRefusedLineCounts : Type 0

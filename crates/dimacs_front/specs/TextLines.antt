@@ -1,6 +1,5 @@
 -- What any line of a text says, and the lines together. Here n is the line's number.
-use Rattle.std.specs.Prelude.{ℕ, ◌+◌, Bool, true, false, not, cond, ◌==◌, ◌&&◌, ◌||◌, List, [], ◌∷◌, ◌++◌, map, drop, codes, Option, Some, None, Result, Ok}
-use Rattle.std.specs.Str.{bytes_eq}
+use Rattle.std.specs.Prelude.{ℕ, ◌+◌, Bool, true, false, not, cond, ◌==◌, ◌&&◌, List, [], ◌∷◌, ◌++◌, map, drop, Option, Some, None, Result, Ok, codes}
 use Rattle.dimacs_tokens.specs.Cuts.{tokens}
 use Rattle.dimacs_tokens.specs.Numbers.{token_value}
 use Rattle.dimacs_tokens.specs.Seen.{list_begins}
@@ -10,14 +9,17 @@ use Rattle.dimacs_front.specs.declared.under.Given.{Given}
 use Rattle.dimacs_front.specs.Steps.{and_then, needs, steps}
 use Rattle.dimacs_front.specs.HeaderLines.{Below, header_says}
 use Rattle.dimacs_front.specs.NumberLines.{numbers_say}
+use Rattle.dimacs_front.specs.LineWords.{begins_by, words_of, own_words}
 use Rattle.dimacs_front.specs.ListLines.{ListLine, show_says, under_says}
+use Rattle.dimacs_front.specs.SavedTexts.{SavedSaid, nothing_saved, saved_says}
 
 -- what the lines so far say: the header and the numbers below it, the show lines in their order,
--- and whether the formula is over
+-- the literals of the under lines, the lines of a saved text's own, and whether the formula is over
 pub record Said : Type 0 where
   pub below : Option Below
   pub shows : List ListLine
   pub given : List Given
+  pub saved : SavedSaid
   pub over : Bool
 
 abbrev pub with_below : Said → Below → Said
@@ -31,34 +33,18 @@ abbrev pub with_given : Said → ListLine → Said
 with_given s m =
     record s { given = s.given ++ map (λ l. record { literal = l; line = m.line }) m.values }
 
--- whether these words are the first tokens of a line
-abbrev pub begins_by : List (List ℕ) → List (List ℕ) → Bool
-begins_by [] ts = true
-begins_by (w ∷ ws) [] = false
-begins_by (w ∷ ws) (t ∷ ts) = bytes_eq t w && begins_by ws ts
-
--- the words of a show line, and of the first line of a saved or a met text
-abbrev pub show_words : List (List ℕ)
-show_words = codes "c" ∷ codes "p" ∷ codes "show" ∷ []
-
-abbrev pub under_words : List (List ℕ)
-under_words = codes "c" ∷ codes "p" ∷ codes "under" ∷ []
-
-abbrev pub saved_words : List (List ℕ)
-saved_words = codes "c" ∷ codes "allsat" ∷ codes "saved" ∷ []
-
-abbrev pub met_words : List (List ℕ)
-met_words = codes "c" ∷ codes "allsat" ∷ codes "met" ∷ []
+abbrev pub with_saved : Said → SavedSaid → Said
+with_saved s k = record s { saved = k }
 
 -- a comment line: other ones than these change nothing
 abbrev pub comment_says : ℕ → Said → List (List ℕ) → Result Said TextRefused
 comment_says n s ts =
-    cond (begins_by show_words ts)
+    cond (begins_by (words_of (codes "show")) ts)
     (and_then (λ m. Ok (with_show s m)) (show_says n (map token_value (drop 3 ts))))
-    (cond (begins_by under_words ts)
+    (cond (begins_by (words_of (codes "under")) ts)
     (and_then (λ m. Ok (with_given s m)) (under_says n (map token_value (drop 3 ts))))
-    (needs (not ((n == 1) && (begins_by saved_words ts || begins_by met_words ts))) (NotBuilt n)
-    (Ok s)))
+    (needs (not ((n == 1) && begins_by (own_words (codes "met")) ts)) (NotBuilt n)
+    (and_then (λ k. Ok (with_saved s k)) (saved_says n s.saved ts))))
 
 -- a line whose first token is t, and no comment: up to the header, and below it. The bytes 112 and
 -- 37 are `p` and `%`
@@ -85,8 +71,12 @@ pub record Lines : Type 0 where
   pub count : ℕ
   pub said : Said
 
+abbrev pub nothing_said : Said
+nothing_said =
+    record { below = None; shows = []; given = []; saved = nothing_saved; over = false }
+
 abbrev pub no_line : Lines
-no_line = record { count = 0; said = record { below = None; shows = []; given = []; over = false } }
+no_line = record { count = 0; said = nothing_said }
 
 abbrev pub next_line : Lines → List ℕ → Result Lines TextRefused
 next_line j line =

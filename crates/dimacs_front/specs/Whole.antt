@@ -19,8 +19,7 @@ last_line n = cond (n == 0) 1 n
 unfoldable pub reads : List ℕ → Result Input TextRefused
 reads bs =
     cond (nat_le (length bs) most_bytes)
-    (and_then (λ j. end_says (last_line j.count) j.said.below j.said.shows j.said.given)
-        (lines_say (lines bs)))
+    (and_then (λ j. end_says (last_line j.count) j.said j.said.below) (lines_say (lines bs)))
     (and_then (λ j. Err (TextTooLong (j.count + 1))) (lines_say (complete (take most_bytes bs))))
 
 -- the refusal of the lowest refused line among the lines that byte 10 ends

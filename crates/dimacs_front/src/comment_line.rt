@@ -17,8 +17,16 @@ pub enum CommentPlace {
     Show,
     /// Behind the words of an under line.
     Under,
-    /// Behind the words of the first line of a saved or a met text.
-    Own,
+    /// Behind the words of a cube line.
+    Cube,
+    /// Behind the words of an open line.
+    Open,
+    /// Behind the words of an end line.
+    End,
+    /// Behind the words of the first line of a saved text.
+    Saved,
+    /// Behind the words of the first line of a met text.
+    Met,
     /// In a comment of which nothing more is read.
     Passed,
 }
@@ -44,9 +52,11 @@ impl CommentPlace {
             CommentPlace::Word if line == 1 && token.is_word(b"allsat") => CommentPlace::Named,
             CommentPlace::Parted if token.is_word(b"show") => CommentPlace::Show,
             CommentPlace::Parted if token.is_word(b"under") => CommentPlace::Under,
-            CommentPlace::Named if token.is_word(b"saved") || token.is_word(b"met") => {
-                CommentPlace::Own
-            }
+            CommentPlace::Parted if token.is_word(b"cube") => CommentPlace::Cube,
+            CommentPlace::Parted if token.is_word(b"open") => CommentPlace::Open,
+            CommentPlace::Parted if token.is_word(b"end") => CommentPlace::End,
+            CommentPlace::Named if token.is_word(b"met") => CommentPlace::Met,
+            CommentPlace::Named if token.is_word(b"saved") => CommentPlace::Saved,
             _ => CommentPlace::Passed,
         }
     }

@@ -1,9 +1,9 @@
 //! The reader of DIMACS CNF text.
 //!
 //! `read_subject` takes comments, projection lines, a header, clauses that span or share lines, and
-//! a line that ends the formula. It judges a text token by token while its bytes come, so a line of
-//! any length costs no memory, and gives the formula as it was written. It rests on the tokens of
-//! DIMACS text, on sources of bytes and on the terms.
+//! a line that ends the formula, and texts that a stopped run has saved. It judges a text token by
+//! token while its bytes come, so a line of any length costs no memory, and gives the formula as it
+//! was written. It rests on the tokens of DIMACS text, on sources of bytes and on the terms.
 #![tactic(auto)]
 
 mod comment_line;
@@ -19,6 +19,8 @@ mod line_place;
 mod made_text;
 mod read;
 mod refused;
+mod saved_line;
+mod saved_lines;
 mod shown;
 pub mod text_laws;
 mod text_reader;

@@ -1,11 +1,13 @@
 //! Where in a line a reader stands between two tokens.
 ghost use Rattle.std.specs.Prelude.{◌≡◌};
-ghost use Rattle.dimacs_front.specs.MachinePlaces.{above_begun, in_comment, place_closed};
-ghost use Rattle.dimacs_front.specs.MachinePlaces.{refusal_at};
+ghost use Rattle.dimacs_front.specs.MachinePlaces.{above_begun, own_place, in_comment};
+ghost use Rattle.dimacs_front.specs.MachinePlaces.{place_closed, refusal_at};
 
 use crate::TextRefused;
 use crate::comment_line::CommentPlace;
 use crate::header_line::HeaderPlace;
+use crate::saved_line::SavedPlace;
+use crate::saved_lines::{SavedLines, SavedList};
 use dimacs_tokens::Seen;
 
 /// The place in a line, with what its tokens said so far.
@@ -27,6 +29,8 @@ pub enum LinePlace {
     Under,
     /// Behind the 0 of an under line.
     UnderEnd,
+    /// In a line that a saved text has of its own.
+    Saved(SavedPlace),
     /// In or below the line that ends the formula.
     Over,
     /// Behind a refusal.
@@ -45,25 +49,50 @@ impl LinePlace {
         }
     }
 
-    /// The place in a comment with these words.
-    pub fn in_comment(line: u64, place: CommentPlace) -> LinePlace
-        ensures { result ≡ in_comment line place }
+    /// The place in a comment with these words, behind these lines of a saved text's own.
+    pub fn in_comment(saved: &SavedLines, line: u64, place: CommentPlace) -> LinePlace
+        ensures { result ≡ in_comment saved.now line place }
     {
         match place {
             CommentPlace::Show => LinePlace::Show,
             CommentPlace::Under => LinePlace::Under,
-            CommentPlace::Own => LinePlace::Refused(TextRefused::NotBuilt { line }),
+            CommentPlace::Cube => {
+                LinePlace::of_saved(saved, line, SavedPlace::Listed(SavedList::Cubes))
+            }
+            CommentPlace::Open => {
+                LinePlace::of_saved(saved, line, SavedPlace::Listed(SavedList::Pending))
+            }
+            CommentPlace::End => LinePlace::of_saved(saved, line, SavedPlace::End),
+            CommentPlace::Saved => LinePlace::Saved(SavedPlace::First),
+            CommentPlace::Met => LinePlace::Refused(TextRefused::NotBuilt { line }),
             words => LinePlace::Comment(words),
         }
     }
 
-    /// The place behind the end of the line, where it ends no header.
+    /// The place in a line that a saved text has of its own: other texts pass over it, and none
+    /// stands behind the end line.
+    fn of_saved(saved: &SavedLines, line: u64, place: SavedPlace) -> LinePlace
+        ensures { result ≡ own_place saved.now line place }
+    {
+        if !saved.is_named() {
+            LinePlace::Comment(CommentPlace::Passed)
+        } else if saved.is_ended() {
+            LinePlace::Refused(TextRefused::SavedBad { line })
+        } else {
+            LinePlace::Saved(place)
+        }
+    }
+
+    /// The place behind the end of the line, where it ends no header and no saved text.
     pub fn closed(self, line: u64) -> LinePlace
         ensures { result ≡ place_closed self line }
     {
         match self {
             LinePlace::Show => LinePlace::Refused(TextRefused::ShowUnended { line }),
             LinePlace::Under => LinePlace::Refused(TextRefused::UnderUnended { line }),
+            LinePlace::Saved(SavedPlace::First | SavedPlace::Listed(_)) => {
+                LinePlace::Refused(TextRefused::SavedBad { line })
+            }
             LinePlace::Over => LinePlace::Over,
             LinePlace::Refused(refusal) => LinePlace::Refused(refusal),
             _ => LinePlace::Beginning,

@@ -1,6 +1,6 @@
 //! The loop over the source.
 ghost use Rattle.std.specs.Prelude.{◌≡◌, ◌-◌, ◌<◌, ◌≤◌, length, vec_len, IfOk};
-ghost use Rattle.dimacs_front.specs.Answers.{ReadsText, TellsText, IsWithinLimits};
+ghost use Rattle.dimacs_front.specs.Answers.{ReadsText, TellsText, IsWithinLimits, IsSavedOf};
 ghost use Rattle.dimacs_front.specs.Pieces.{FeedsOn};
 
 use crate::text_reader::TextReader;
@@ -13,8 +13,9 @@ const PIECE_SIZE: usize = 65_536;
 
 /// Reads a text from the source, up to its end, or up to the piece in which a line is refused or
 /// the text grows too long. Takes memory for the formula, for the variables of the show lines (each
-/// once, and a byte for each number up to the largest), and for one buffer, whatever the length of
-/// the lines and of the text.
+/// once, and a byte for each number up to the largest), for the literals of the under lines, for
+/// the cubes of a saved text (each once), and for one buffer, whatever the length of the lines and
+/// of the text.
 pub fn read_subject<S: Source>(alloc: Global, source: &mut S) -> Result<Input, ReadRefused>
     ensures reads { ReadsText (S.shows source.old) (S.shows source.new) result }
 
@@ -22,6 +23,10 @@ pub fn read_subject<S: Source>(alloc: Global, source: &mut S) -> Result<Input, R
     ensures told { TellsText (S.shows source.old).left result }
 
     ensures sizes { IfOk result IsWithinLimits }
+
+    // What a saved text has besides is over the same variables, within the given literals.
+    ensures saved { IfOk result (λ input.
+        IsSavedOf input.subject.shown input.subject.under input.saved) }
 {
     let mut buffer = zero_bytes(alloc, PIECE_SIZE)?;
     read_pieces(alloc, source, &mut buffer)

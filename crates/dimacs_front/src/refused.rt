@@ -60,7 +60,15 @@ pub enum TextRefused {
     /// An under line has no 0.
     #[error("line {line}: an under line has no 0")]
     UnderUnended { line: u64 },
-    /// The first line names a saved or a met text.
+    /// In a saved text, the first line has no version that is known, a cube line or an open line
+    /// holds no cube, or one that is not over the shown variables within the given literals, the
+    /// end line has a further token, or one of these stands behind the end line.
+    #[error("line {line}: a line of a saved text is not what it has to be")]
+    SavedBad { line: u64 },
+    /// A saved text has no end line.
+    #[error("line {line}: a saved text has no end line")]
+    SavedUnended { line: u64 },
+    /// The first line names a met text.
     #[error("line {line}: texts of this form are not read yet")]
     NotBuilt { line: u64 },
 }
@@ -86,6 +94,8 @@ impl TextRefused {
             TextRefused::TooManyLiterals { .. } => 13,
             TextRefused::TooManyShown { .. } => 14,
             TextRefused::TextTooLong { .. } => 15,
+            TextRefused::SavedBad { .. } => 16,
+            TextRefused::SavedUnended { .. } => 17,
             TextRefused::NotBuilt { .. } => 20,
             TextRefused::UnderBad { .. } => 21,
             TextRefused::UnderUnended { .. } => 22,
@@ -112,6 +122,8 @@ impl TextRefused {
             TextRefused::TooManyLiterals { .. } => "TooManyLiterals",
             TextRefused::TooManyShown { .. } => "TooManyShown",
             TextRefused::TextTooLong { .. } => "TextTooLong",
+            TextRefused::SavedBad { .. } => "SavedBad",
+            TextRefused::SavedUnended { .. } => "SavedUnended",
             TextRefused::NotBuilt { .. } => "NotBuilt",
             TextRefused::UnderBad { .. } => "UnderBad",
             TextRefused::UnderUnended { .. } => "UnderUnended",
@@ -138,6 +150,8 @@ impl TextRefused {
             TextRefused::TooManyLiterals { line } => *line,
             TextRefused::TooManyShown { line } => *line,
             TextRefused::TextTooLong { line } => *line,
+            TextRefused::SavedBad { line } => *line,
+            TextRefused::SavedUnended { line } => *line,
             TextRefused::NotBuilt { line } => *line,
             TextRefused::UnderBad { line } => *line,
             TextRefused::UnderUnended { line } => *line,

@@ -36,56 +36,21 @@ pub(crate) fn numbers(alloc: Global, input: &Input) -> Result<Vec<i32>, AllocErr
 
 #[test]
 fn an_accepted_text_gives_its_formula_and_shown_variables(rt: HostRuntime) -> Result<(), Fail> {
-    let alloc = rt.alloc();
-    let texts: [(&[u8], u32, &[u32], &[i32]); 13] = [
-        (b"p cnf 2 1\n1 2 0\n", 2, &[1, 2], &[1, 2, 0]),
-        (b"p cnf 0 0\n", 0, &[], &[]),
-        (
-            b"p cnf 2 2\nc p show 1 0\n1 2 0\n-1 -2 0\n",
-            2,
-            &[1],
-            &[1, 2, 0, -1, -2, 0],
-        ),
-        (b"p cnf 1 1\nc p show 0\n1 0\n", 1, &[], &[1, 0]),
-        (
-            b"c from a benchmark page\np cnf 3  3 \n 1\n-2\n0\n2 3 0 -1 0\n%\n0\n",
-            3,
-            &[1, 2, 3],
-            &[1, -2, 0, 2, 3, 0, -1, 0],
-        ),
-        (
-            b"c t pmc\np cnf 4 2\nc p show 1 2 0\n1 3 0\nc p weight 1 0.4 0\n\
-                c a comment between clauses\n-2 4 0\nc p show 2 0\n",
-            4,
-            &[1, 2],
-            &[1, 3, 0, -2, 4, 0],
-        ),
-        (b"p cnf 4097 0\nc p show 4097 0\n", 4097, &[4097], &[]),
-        (b"p cnf 1 1\n1 0\n%\njunk\n", 1, &[1], &[1, 0]),
-        (b"p cnf 2 0\nc p open 2 1 0\n", 2, &[1, 2], &[]),
-        (
-            b"c p show 3 1 0\np cnf 4 0\nc p show 2 3 0\n",
-            4,
-            &[1, 2, 3],
-            &[],
-        ),
-        (b"\nc allsat saved 1\np cnf 1 0\n", 1, &[1], &[]),
-        (b"c allsat\np cnf 1 0\n", 1, &[1], &[]),
-        (
-            b"\t\x0bp\x0ccnf\r2 1\ncomment\n1\nc x\n-2 0",
-            2,
-            &[1, 2],
-            &[1, -2, 0],
-        ),
-    ];
-    for (text, variables, shown, said) in texts {
-        for step in [1, 4, 1000] {
-            let input = read(alloc, text, step, &[])??;
-            assert_eq!(rt; input.subject.formula.variables, variables, "at {text:?}");
-            assert_eq!(rt; input.subject.shown.as_slice(), shown, "at {text:?}");
-            assert_eq!(rt; numbers(alloc, &input)?.as_slice(), said, "at {text:?}");
-        }
-    }
+    let rows = "\
+p cnf 2 1|1 2 0| => 2 1 2 clauses 1 2 0
+p cnf 0 0| => 0
+p cnf 2 2|c p show 1 0|1 2 0|-1 -2 0| => 2 1 clauses 1 2 0 -1 -2 0
+p cnf 1 1|c p show 0|1 0| => 1 clauses 1 0
+c from a page|p cnf 3  3 | 1|-2|0|2 3 0 -1 0|%|0| => 3 1 2 3 clauses 1 -2 0 2 3 0 -1 0
+p cnf 4 2|c p show 1 2 0|1 3 0|c a|-2 4 0|c p show 2 0| => 4 1 2 clauses 1 3 0 -2 4 0
+p cnf 4097 0|c p show 4097 0| => 4097 4097
+p cnf 1 1|1 0|%|junk| => 1 1 clauses 1 0
+p cnf 2 0|c p open 2 1 0| => 2 1 2
+c p show 3 1 0|p cnf 4 0|c p show 2 3 0| => 4 1 2 3
+|c allsat saved 1|p cnf 1 0| => 1 1
+c allsat|p cnf 1 0| => 1 1
+\t\x0bp\x0ccnf\r2 1|comment|1|c x|-2 0 => 2 1 2 clauses 1 -2 0";
+    assert_eq!(rt; other_row(rt.alloc(), rows)?, None);
     Ok(())
 }
 
@@ -204,17 +169,56 @@ fn a_variable_that_is_named_again_counts_once(rt: HostRuntime) -> Result<(), Fai
 }
 
 #[test]
-fn a_saved_or_a_met_text_is_not_read_yet(rt: HostRuntime) -> Result<(), Fail> {
+fn a_saved_text_is_refused_by_its_lowest_wrong_line(rt: HostRuntime) -> Result<(), Fail> {
     let rows = "\
-c allsat saved 2|p cnf 0 0|c p end| => NotBuilt 1
-c allsat saved 1|p cnf 2 0|c p show 1 0|c p open 2 0|c p end| => NotBuilt 1
-c allsat saved 1|p cnf 2 0|c p open 2 1 0|c p end| => NotBuilt 1
-c allsat saved 1|p cnf 2 0|c p end|c p open 0| => NotBuilt 1
-c allsat saved 1|p cnf 2 1|c p open 0| => NotBuilt 1
+c allsat saved 1|p cnf 2 0|c p show 1 0|c p open 2 0|c p end| => SavedBad 4
+c allsat saved 1|p cnf 2 0|c p open 2 1 0|c p end| => SavedBad 3
+c allsat saved 1|p cnf 2 0|c p end|c p open 0| => SavedBad 4
+c allsat saved 1|p cnf 2 1|c p open 0| => SavedUnended 3
+c allsat saved => SavedBad 1
+c allsat saved 3|x| => SavedBad 1
+c allsat saved 1x| => SavedBad 1
+c allsat saved 01| => SavedBad 1
+c allsat saved 1 1| => SavedBad 1
+c allsat saved 2 x| => SavedBad 1
+\tc\x0ballsat\x0csaved\rx 1| => SavedBad 1
+c allsat saved 1|p cnf 1 0|c p end x| => SavedBad 3
+c allsat saved 1|p cnf 1 0|c p cube 1| => SavedBad 3
+c allsat saved 1|p cnf 1 0|c p cube| => SavedBad 3
+c allsat saved 1|p cnf 1 0|c p cube 1 0 0| => SavedBad 3
+c allsat saved 1|p cnf 1 0|c p cube 1 x 0| => SavedBad 3
+c allsat saved 1|p cnf 3 0|c p cube 1 -3 3 0|c p end| => SavedBad 3
+c allsat saved 1|c p cube 1000001 0|p cnf 3 0|c p end| => SavedBad 2
+c allsat saved 2|c p end|c p end|p cnf 3 0| => SavedBad 3
+c allsat saved 2|c p end|c p cube 0|p cnf 3 0| => SavedBad 3
+c allsat saved 2|p cnf 1 0|%|c p end| => SavedUnended 4
+c allsat saved 2|p cnf 1 2|1 => Unfinished 3
+c allsat saved 2|c p end|p cnf 1 2|1 0 => ClauseCount 4 said 2 found 1
+c allsat saved 2|c p open 3 0|c p cube 2 0|p cnf 3 0|c p show 1 0|c p end| => SavedBad 2
+c allsat saved 2|c p cube 3 0|c p open 2 0|p cnf 3 0|c p show 1 0|c p end| => SavedBad 2
+c allsat saved 2|c p cube 1 0|c p open -1 0|p cnf 3 0|c p under -1 0|c p end| => SavedBad 2
+c allsat saved 2|c p cube -1 0|c p open 3 0|p cnf 3 0|c p under -1 0|c p end| => SavedBad 3
+c allsat saved 2|c p cube 2 0|p cnf 1 0|c p under 2 0|c p end| => UnderBad 4
+c allsat saved 2|c p cube 2 0|p cnf 8193 0|c p show 8194 0|c p end| => ShowBad 4
 c allsat met 1|p cnf 1 0|c p met 0 0|c p end| => NotBuilt 1
-c allsat saved => NotBuilt 1
-\tc\x0ballsat\x0csaved\rx 1| => NotBuilt 1
  c  allsat met|x| => NotBuilt 1";
+    assert_eq!(rt; other_row(rt.alloc(), rows)?, None);
+    Ok(())
+}
+
+#[test]
+fn a_saved_text_gives_its_cubes_and_prefixes_in_order(rt: HostRuntime) -> Result<(), Fail> {
+    let rows = "\
+c allsat saved 2|p cnf 0 0|c p end| => 0 saved
+c allsat saved 1|p cnf 2 1|1 2 0|c p cube 1 0|c p open -1 0|c p end \
+=> 2 1 2 clauses 1 2 0 saved cubes 1 0 open -1 0
+\tc allsat  saved 2|c p open 1 -3 0|p cnf 3 0|c p cube -1 0|c p cube 0|c p open 0|c p end \
+=> 3 1 2 3 saved cubes -1 0 0 open 1 -3 0 0
+c allsat saved 1|c p end|p cnf 3 0|c p ended 1|%|c p cube 1 0|c p end => 3 1 2 3 saved
+c allsat saved 1|c p cube 01 -0002 0|p cnf 3 1|1|c p end|2 0 \
+=> 3 1 2 3 clauses 1 2 0 saved cubes 1 -2 0
+c allsat saved 2|c p cube -1 3 0|p cnf 3 0|c p end|c p under -1 0|c p show 1 3 0 \
+=> 3 1 3 under -1 0 saved cubes -1 3 0";
     assert_eq!(rt; other_row(rt.alloc(), rows)?, None);
     Ok(())
 }
@@ -233,57 +237,50 @@ fn compressed_bytes_are_no_text(rt: HostRuntime) -> Result<(), Fail> {
 
 #[test]
 fn the_literals_of_all_under_lines_are_one_cube(rt: HostRuntime) -> Result<(), Fail> {
-    let alloc = rt.alloc();
-    let texts: [(&[u8], &[i32]); 5] = [
-        (b"p cnf 2 1\nc p under -1 0\n1 2 0\n", &[-1]),
-        (
-            b"c p under 3 0\np cnf 3 0\nc p under -1 3 0\nc p under 0",
-            &[-1, 3],
-        ),
-        (b"c p show 2 0\nc p under -2 -02 0\np cnf 2 0\n", &[-2]),
-        (
-            b"p cnf 1 0\nc p unders 1 0\nc p under1 0\nc under 1 0\n",
-            &[],
-        ),
-        (b"p cnf 1 0\n%\nc p under 1\n", &[]),
-    ];
-    for (text, under) in texts {
-        let input = read(alloc, text, 4, &[])??;
-        assert_eq!(rt; input.subject.under.lits(), under, "at {text:?}");
-    }
+    let rows = "\
+p cnf 2 1|c p under -1 0|1 2 0| => 2 1 2 under -1 0 clauses 1 2 0
+c p under 3 0|p cnf 3 0|c p under -1 3 0|c p under 0 => 3 1 2 3 under -1 3 0
+c p show 2 0|c p under -2 -02 0|p cnf 2 0| => 2 2 under -2 0
+p cnf 1 0|c p unders 1 0|c p under1 0|c under 1 0| => 1 1
+p cnf 1 0|%|c p under 1| => 1 1";
+    assert_eq!(rt; other_row(rt.alloc(), rows)?, None);
     Ok(())
 }
 
 #[test]
 fn a_comment_line_of_other_words_is_passed_over(rt: HostRuntime) -> Result<(), Fail> {
+    let rows = "\
+cc allsat saved 1|p cnf 1 0| => 1 1
+c allsat saved1|p cnf 1 0| => 1 1
+c allsats saved 1|p cnf 1 0| => 1 1
+c allsat|c saved 1|p cnf 1 0| => 1 1
+c|c allsat met 1|p cnf 1 0| => 1 1
+p cnf 1 0|c allsat saved 1| => 1 1
+p cnf 1 0|c p cube x|c p open 0 0|c p end 1| => 1 1
+p cnf 1 0|c p shows 2 0|c p sho 2 0|c p show2 0| => 1 1
+p cnf 1 0|cp show 2 0|c pshow 2 0|c show 2 0| => 1 1
+p cnf 1 0|c\tp weight 2 0.4 0|c p|c| => 1 1
+p cnf 1 0|c c p show 2 0|cp cnf 1 0|c % | => 1 1
+c\x00\u{ff} \u{fe}\r|p cnf 1 0| => 1 1
+p cnf 1 0|%|c p show 2 0|p cnf|x => 1 1
+p cnf 1 0| %x 1|1 0| => 1 1
+| \t||\x0c| p cnf 1 0 || => 1 1";
+    assert_eq!(rt; other_row(rt.alloc(), rows)?, None);
+    Ok(())
+}
+
+/// The one without its last byte is: a last line needs no byte 10.
+#[test]
+fn no_front_of_a_saved_text_is_accepted(rt: HostRuntime) -> Result<(), Fail> {
     let alloc = rt.alloc();
-    let texts: [&[u8]; 14] = [
-        b"cc allsat saved 1\np cnf 1 0\n",
-        b"c allsat saved1\np cnf 1 0\n",
-        b"c allsats saved 1\np cnf 1 0\n",
-        b"c allsat\nc saved 1\np cnf 1 0\n",
-        b"c\nc allsat met 1\np cnf 1 0\n",
-        b"p cnf 1 0\nc allsat saved 1\n",
-        b"p cnf 1 0\nc p shows 2 0\nc p sho 2 0\nc p show2 0\n",
-        b"p cnf 1 0\ncp show 2 0\nc pshow 2 0\nc show 2 0\n",
-        b"p cnf 1 0\nc\tp weight 2 0.4 0\nc p\nc\n",
-        b"p cnf 1 0\nc c p show 2 0\ncp cnf 1 0\nc % \n",
-        b"c\x00\xff\x80 \xfe\r\np cnf 1 0\n",
-        b"p cnf 1 0\n%\nc p show 2 0\np cnf\nx",
-        b"p cnf 1 0\n %x 1\n1 0\n",
-        b"\n \t\n\x0c\n p cnf 1 0 \n\n",
-    ];
-    for text in texts {
-        for step in [1, 4, 1000] {
-            let input = read(alloc, text, step, &[])??;
-            assert_eq!(rt; input.subject.formula.variables, 1, "at {text:?}");
-            assert_eq!(rt;
-                input.subject.shown.as_slice(),
-                [1].as_slice(),
-                "at {text:?}"
-            );
-            assert_eq!(rt; numbers(alloc, &input)?.len(), 0, "at {text:?}");
-        }
+    let text = b"c allsat saved 2\np cnf 2 1\n1 2 0\nc p show 1 2 0\nc p cube 1 0\nc p end\n";
+    for count in 0..text.len() {
+        let accepted = read(alloc, &text[..count], 7, &[])?.is_ok();
+        assert_eq!(rt;
+            accepted,
+            count.saturating_add(1) == text.len(),
+            "at {count}"
+        );
     }
     Ok(())
 }
@@ -438,6 +435,8 @@ fn a_refusal_keeps_its_number_and_line(rt: HostRuntime) {
         (TextRefused::TooManyLiterals { line }, 13),
         (TextRefused::TooManyShown { line }, 14),
         (TextRefused::TextTooLong { line }, 15),
+        (TextRefused::SavedBad { line }, 16),
+        (TextRefused::SavedUnended { line }, 17),
         (TextRefused::NotBuilt { line }, 20),
         (TextRefused::UnderBad { line }, 21),
         (TextRefused::UnderUnended { line }, 22),

@@ -1,19 +1,71 @@
 //! For tests: tables of texts and their answers, one row a line.
 use crate::tests::read;
-use crate::{ReadRefused, TextRefused};
+use crate::{Input, ReadRefused, TextRefused};
+use sat_terms::{Cube, Items};
 use std::alloc::{AllocError, Global};
 
-/// The name and the line of the text's refusal, read by so many bytes at a call, and for a number
-/// of clauses that is not the header's both numbers.
+/// Puts the literals of a list behind the text, and a 0.
+fn put_list(alloc: Global, text: &mut String, lits: &[i32]) -> Result<(), AllocError> {
+    for lit in lits {
+        text.push_str(format!(in alloc; " {lit}")?.as_str())?;
+    }
+    text.push_str(" 0")
+}
+
+/// Puts a word and the literals of cubes behind the text, where there are cubes.
+fn put_cubes(
+    alloc: Global,
+    text: &mut String,
+    word: &str,
+    cubes: &Items<Cube>,
+) -> Result<(), AllocError> {
+    if !cubes.as_slice().is_empty() {
+        text.push_str(word)?;
+    }
+    for cube in cubes.as_slice() {
+        put_list(alloc, text, cube.lits())?;
+    }
+    Ok(())
+}
+
+/// The number of variables, and behind a word each what there is of shown variables, given
+/// literals, clauses, cubes and prefixes.
+fn accepted(alloc: Global, input: &Input) -> Result<String, AllocError> {
+    let subject = &input.subject;
+    let mut text = format!(in alloc; "{}", subject.formula.variables)?;
+    for variable in subject.shown.as_slice() {
+        text.push_str(format!(in alloc; " {variable}")?.as_str())?;
+    }
+    if !subject.under.lits().is_empty() {
+        text.push_str(" under")?;
+        put_list(alloc, &mut text, subject.under.lits())?;
+    }
+    if !subject.formula.clauses.as_slice().is_empty() {
+        text.push_str(" clauses")?;
+    }
+    for clause in subject.formula.clauses.as_slice() {
+        put_list(alloc, &mut text, clause.lits())?;
+    }
+    if let Some(saved) = &input.saved {
+        text.push_str(" saved")?;
+        put_cubes(alloc, &mut text, " cubes", &saved.cubes)?;
+        put_cubes(alloc, &mut text, " open", &saved.pending)?;
+    }
+    Ok(text)
+}
+
+/// What the text gives, read by so many bytes at a call: the name and the line of its refusal, for
+/// a number of clauses that is not the header's both numbers, or its input.
 fn answer(alloc: Global, text: &[u8], step: usize) -> Result<String, AllocError> {
     match read(alloc, text, step, &[])? {
+        Ok(input) => accepted(alloc, &input),
         Err(ReadRefused::Text(TextRefused::ClauseCount { line, said, found })) => {
             format!(in alloc; "ClauseCount {line} said {said} found {found}")
         }
         Err(ReadRefused::Text(refusal)) => {
             format!(in alloc; "{} {}", refusal.name(), refusal.line())
         }
-        _ => format!(in alloc; "accepted"),
+        Err(failed) => format!(in alloc; "{failed}"),
     }
 }
 

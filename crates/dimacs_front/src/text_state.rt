@@ -4,28 +4,32 @@ ghost use Rattle.dimacs_front.specs.MachinePlaces.{refusal_at};
 ghost use Rattle.dimacs_front.specs.Machine.{nothing_said_yet, below_begun, line_begun, eaten};
 ghost use Rattle.dimacs_front.specs.Machine.{formula_begun, header_ended, closed};
 ghost use Rattle.sat_terms.specs.Subjects.{IsVariableList};
-ghost use Rattle.dimacs_front.specs.TextEnds.{first_misplaced};
-ghost use Rattle.dimacs_front.specs.MachineEnd.{end_refusal, with_under, end_of};
+ghost use Rattle.dimacs_front.specs.TextEnds.{first_misplaced, lowest_outside};
+ghost use Rattle.dimacs_front.specs.MachineEnd.{end_refusal, with_saved_lines, with_under, end_of};
 ghost use Rattle.dimacs_front.specs.Pieces.{Answered};
 
 use crate::comment_line::CommentPlace;
 use crate::header_line::{HeaderPlace, natural};
 use crate::line_place::LinePlace;
+use crate::saved_line::SavedPlace;
+use crate::saved_lines::{RisingLits, SavedLines};
 use crate::shown::ShowLines;
 use crate::under::UnderLines;
 use crate::written::Written;
 use crate::{Input, MOST_CLAUSES, MOST_VARIABLES, ReadRefused, TextRefused};
 use dimacs_tokens::Seen;
-use sat_terms::{Items, Subject};
+use sat_terms::{Cube, Items, Subject};
 use std::alloc::{AllocError, Global};
 use std::marker::Model;
 
 mod number_line;
+mod saved_line;
 mod show_line;
 mod under_line;
 
 /// The place in the line, whether there was a header, the formula below it, whether a show line was
-/// ended, and the variables of all show lines, each once.
+/// ended, the variables of all show lines, each once, the literals of the under lines, the lines of
+/// a saved text's own, and the literals of the open one of these.
 #[derive(Drop)]
 pub struct TextState {
     alloc: Global,
@@ -35,6 +39,8 @@ pub struct TextState {
     given: bool,
     named: ShowLines,
     under: UnderLines,
+    saved: SavedLines,
+    lits: RisingLits,
 }
 
 impl Model for TextState {
@@ -49,6 +55,8 @@ impl Model for TextState {
       given = s.given;
       named = s.named;
       under = s.under;
+      saved = s.saved;
+      lits = s.lits;
     } };
 }
 
@@ -65,6 +73,8 @@ impl TextState {
             given: false,
             named: ShowLines::make(alloc),
             under: UnderLines::make(alloc),
+            saved: SavedLines::make(alloc),
+            lits: RisingLits::make(alloc),
         }
     }
 
@@ -78,12 +88,13 @@ impl TextState {
             LinePlace::Header(header) => self.place = LinePlace::Header(header.after(token)),
             LinePlace::Numbers => return self.eat_number(line, token.number().value()),
             LinePlace::Comment(words) => {
-                self.place = LinePlace::in_comment(line, words.after(line, token));
+                self.place = LinePlace::in_comment(&self.saved, line, words.after(line, token));
             }
             LinePlace::Show => return self.eat_shown(line, natural(token.number())),
             LinePlace::ShowEnd => self.place = LinePlace::Refused(TextRefused::ShowBad { line }),
             LinePlace::Under => return self.eat_given(line, token.number().value()),
             LinePlace::UnderEnd => self.place = LinePlace::Refused(TextRefused::UnderBad { line }),
+            LinePlace::Saved(place) => return self.eat_saved(line, place, token),
             LinePlace::Over | LinePlace::Refused(_) => {}
         }
         Ok(())
@@ -94,7 +105,7 @@ impl TextState {
         ensures { OnOk result (self.new ≡ line_begun line self.old token.now) }
     {
         if token.begins_with(b'c') {
-            self.place = LinePlace::in_comment(line, CommentPlace::first(token));
+            self.place = LinePlace::in_comment(&self.saved, line, CommentPlace::first(token));
             return Ok(());
         }
         if self.started {
@@ -126,6 +137,10 @@ impl TextState {
     {
         match self.place {
             LinePlace::Header(header) => self.end_header(line, header),
+            LinePlace::Saved(SavedPlace::End) => {
+                self.saved.end();
+                self.place = LinePlace::Beginning;
+            }
             place => self.place = place.closed(line),
         }
     }
@@ -173,6 +188,9 @@ impl TextState {
         if !self.formula.is_ended() {
             return Some(TextRefused::Unfinished { line });
         }
+        if self.saved.is_named() && !self.saved.is_ended() {
+            return Some(TextRefused::SavedUnended { line });
+        }
         let said = self.formula.said();
         let found = self.formula.found();
         if found != said {
@@ -202,21 +220,33 @@ impl TextState {
     /// The input with these shown variables, or why its given literals are refused.
     fn with_under(self, shown: Items<u32>) -> Result<Input, ReadRefused>
         requires { IsVariableList shown }
-        ensures { Answered (with_under self.formula self.under shown
+        ensures { Answered (with_under self.formula self.under self.saved shown
             (first_misplaced shown [] self.under)) result }
     {
         match self.under.cube(self.alloc, shown.as_slice())? {
-            Ok(under) => {
-                let formula = self.formula.into_formula();
-                Ok(Input {
-                    subject: Subject {
-                        formula,
-                        shown,
-                        under,
-                    },
-                })
-            }
+            Ok(under) => self.with_saved(shown, under),
             Err(line) => Err(ReadRefused::Text(TextRefused::UnderBad { line })),
         }
+    }
+
+    /// The input with these given literals, or why its saved lines are refused.
+    fn with_saved(self, shown: Items<u32>, under: Cube) -> Result<Input, ReadRefused>
+        requires { IsVariableList shown }
+        ensures { Answered (with_saved_lines self.formula shown under self.saved
+            (lowest_outside shown under self.saved)) result }
+    {
+        if let Some(line) = self.saved.lowest_outside(shown.as_slice(), under.lits()) {
+            return Err(ReadRefused::Text(TextRefused::SavedBad { line }));
+        }
+        let saved = self.saved.into_saved(self.alloc)?;
+        let formula = self.formula.into_formula();
+        Ok(Input {
+            subject: Subject {
+                formula,
+                shown,
+                under,
+            },
+            saved,
+        })
     }
 }

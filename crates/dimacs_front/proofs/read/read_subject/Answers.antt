@@ -1,4 +1,5 @@
 use Rattle.dimacs_front.proofs.Taking.{nothing_read, text_told}
+use Rattle.dimacs_front.proofs.SavedInside.{text_inside}
 use Rattle.dimacs_front.proofs.Sound.{text_limits}
 use Rattle.dimacs_front.proofs.read.read_subject.Goals as goal
 
@@ -10,3 +11,6 @@ returns-clause-told g c = text_told _ _ _ c.read_pieces.ensures
 
 pub returns-clause-sizes : goal.returns-clause-sizes
 returns-clause-sizes g c = text_limits _ _ _ c.read_pieces.ensures
+
+pub returns-clause-saved : goal.returns-clause-saved
+returns-clause-saved g c = text_inside _ _ _ c.read_pieces.ensures

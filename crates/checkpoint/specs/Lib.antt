@@ -1,0 +1,2 @@
+-- The text of a stopped run.
+pub mod SavedText
