@@ -1,0 +1,13 @@
+mod Booked
+mod Found
+mod Holders
+mod Kept
+mod Least
+mod Numbered
+mod Numbers
+mod Others
+mod Paged
+mod Places
+mod Ranks
+mod Script
+mod Whole

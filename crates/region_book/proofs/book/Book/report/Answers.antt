@@ -1,0 +1,35 @@
+use Rattle.std.proofs.Common.{suc, length, sym, ap, subst, ◌∙◌}
+use Rattle.std.specs.List.{find}
+use Rattle.region_book.specs.declared.event.Event.TheVariants.{Report}
+use Rattle.region_book.specs.Machine.{BookState, is_held_by, FitsFound}
+use Rattle.region_book.specs.Pages.{report_answer}
+use Rattle.region_book.specs.Books.{BookView, IsBook, state_of, with_event}
+use Rattle.region_book.proofs.Booked.{same_book, entered_book, same_view, entered_view}
+use Rattle.region_book.proofs.book.Book.report.Goals as goal
+
+pub invariant_of-self : goal.invariant_of-self
+invariant_of-self c =
+    let b = c.self.inside in
+    let n = c.args.number in
+    let o = c.args.outcome in
+    let kept = c.prepare.new.self in
+    entered_book b.subject b.saved b.passes kept c.report.new.self (same_book b.subject b.saved b.passes b.pages kept c.self.invariant c.prepare.ensures.same) (Report c.args.pass n o) c.report.ensures.enters
+    (subst (λ (s : BookState). FitsFound b.subject.formula.clauses b.subject.shown (find (is_held_by c.args.pass n) s.pending) o) (c.self.invariant.state ∙ sym c.prepare.ensures.same.state)
+    (subst (λ (v : BookView). FitsFound v.subject.formula.clauses v.subject.shown (find (is_held_by c.args.pass n) (state_of v).pending) o) (sym c.self.view_is) c.requires.fits))
+
+pub returns-in-Ok-clause-reports : goal.returns-in-Ok-clause-reports
+returns-in-Ok-clause-reports c =
+    let b = c.self.inside in
+    let o = c.args.outcome in
+    let kept = c.prepare.new.self in
+    let new = c.report.new.self in
+    let book : IsBook b.subject b.saved b.passes new = invariant_of-self c in
+    record {
+      event =
+          entered_view b.subject b.saved b.passes kept new (same_book b.subject b.saved b.passes b.pages kept c.self.invariant c.prepare.ensures.same) (Report c.args.pass c.args.number o) c.report.ensures.enters
+          ∙ ap (with_event (Report c.args.pass c.args.number o)) (same_view b.subject b.saved b.passes b.pages kept c.self.invariant c.prepare.ensures.same ∙ c.self.view_is);
+      answers =
+          c.report.ensures.answers
+          ∙ ap (λ j. report_answer (suc j) o new.spent) (ap length c.prepare.ensures.same.journal ∙ ap (λ (v : BookView). length v.journal) c.self.view_is)
+          ∙ ap (report_answer (suc (length c.args.self.now.journal)) o) (sym (ap (λ (s : BookState). s.spent) book.state));
+    }

@@ -1,0 +1,9 @@
+pub mod Arranged
+pub mod Books
+pub mod Examples
+pub mod Laws
+pub mod Lowest
+pub mod Machine
+pub mod Pages
+pub mod Partition
+pub mod Starts

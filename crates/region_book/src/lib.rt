@@ -1,0 +1,25 @@
+//! The book of a search: which cubes are published, which prefixes are pending, and by whom each of
+//! these is held. Its journal lists the events that made it so.
+//!
+//! The events are a machine over plain lists, in `specs/Machine.antt`. Each call of the book is one
+//! event or none, and the laws say that no event loses or doubles a projected assignment.
+#![tactic(auto)]
+
+mod answers;
+mod arranged;
+mod book;
+mod copies;
+mod event;
+pub mod laws;
+mod lowest;
+mod pages;
+mod pending;
+
+pub use answers::{Progress, Reported, Taken};
+pub use arranged::ArrangedBook;
+pub use book::Book;
+pub use event::Event;
+pub use pending::Pending;
+
+#[cfg(test)]
+mod tests;
