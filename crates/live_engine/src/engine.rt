@@ -255,3 +255,12 @@ impl Engine {
         self.search.variables
     }
 }
+
+#[cfg(test)]
+mod calls;
+#[cfg(test)]
+mod lemma_tests;
+#[cfg(test)]
+mod prefix_tests;
+#[cfg(test)]
+mod tests;
