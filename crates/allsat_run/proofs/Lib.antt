@@ -1,4 +1,5 @@
 mod Fronts
 pub mod Ending
+pub mod Jobs
 pub mod NoteLemmas
 pub mod WordLemmas

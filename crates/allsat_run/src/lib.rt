@@ -1,8 +1,16 @@
 //! The whole program as one call: words and bytes in, a listing and a status out.
 #![tactic(auto)]
 
+#[cfg(test)]
+mod counts;
+#[cfg(test)]
+mod drawn;
 mod enumerate;
 mod notes;
+#[cfg(test)]
+mod pieces;
+#[cfg(test)]
+mod random_tests;
 mod search;
 mod status;
 mod words;
