@@ -39,7 +39,7 @@ from itertools import product
 from pathlib import Path
 
 TOP = Path(__file__).resolve().parent.parent
-PROGRAM = str(TOP / "crates" / "allsat_cli" / "out" / "allsat_cli")
+PROGRAM = str(TOP / "crates" / "allsat_cli" / "out" / "build" / "allsat")
 WORDS = [PROGRAM, "enumerate"]
 
 CLAUSES = 4_000_000

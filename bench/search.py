@@ -8,8 +8,9 @@ is listed once by the program, for at most so many seconds, 60 where nothing els
 are the cubes of the listing, the seconds, the greatest memory in MB (10^6 bytes), and the
 millions of instructions, which do not depend on the load of the machine: valgrind counts them in
 a second run, of at most twenty times the limit, where it is installed and --no-count is not said.
-Where clasp is installed, its time for the same projected enumeration stands beside, over the same
-clauses as an aspif text. A dash stands for what was not measured or did not end.
+Where clasp is installed, the points that it lists by the same projected enumeration and its seconds
+stand beside, over the same clauses as an aspif text; it writes none of them out. A dash stands for
+what was not measured or did not end. Memory below some 16 MB, what Python takes, is not told.
 
 The families, made in a folder of its own that is taken away at the end:
 
@@ -38,10 +39,10 @@ TOP = Path(__file__).resolve().parent.parent
 sys.path.insert(0, str(TOP / "tools"))
 import dimacs  # noqa: E402
 
-PROGRAM = str(TOP / "crates" / "allsat_cli" / "out" / "allsat_cli")
+PROGRAM = str(TOP / "crates" / "allsat_cli" / "out" / "build" / "allsat")
 
 TOO_LONG = 124  # the status of `timeout` where it ended what it ran
-HEADS = ("formula", "cubes", "seconds", "MB", "M instr.", "clasp")
+HEADS = ("formula", "cubes", "seconds", "MB", "M instr.", "points", "clasp")
 
 Run = namedtuple("Run", "status seconds memory output notes")
 
@@ -191,10 +192,14 @@ def listed(path, folder, limit):
     found = run([PROGRAM, "enumerate"], path, folder, limit)
     if found.status == TOO_LONG:
         return None, None, None
-    lines = found.output.read_bytes().split(b"\n")
-    if found.status != 0 or lines[-2:] != [b"s ALL", b""]:
+    # Line by line: a process that is started counts the memory that this one has by then.
+    lines, last = 0, b""
+    with found.output.open("rb") as listing:
+        for last in listing:
+            lines += 1
+    if found.status != 0 or last != b"s ALL\n":
         sys.exit("wrong: %s: status %d, %r" % (path, found.status, found.notes.read_bytes()))
-    return len(lines) - 2, found.seconds, found.memory
+    return lines - 1, found.seconds, found.memory
 
 
 def counted(path, folder, limit):
@@ -206,11 +211,14 @@ def counted(path, folder, limit):
 
 
 def by_clasp(path, folder, limit):
-    """The seconds that clasp takes for the same projected enumeration."""
+    """The points and the seconds of clasp for the same projected enumeration."""
     program = folder / "program.aspif"
     write_aspif(program, dimacs.read(path.read_bytes()))
     found = run(["clasp", "0", "-q", "--project=project"], program, folder, limit)
-    return None if found.status == TOO_LONG else found.seconds
+    number = re.search(rb"Models +: (\d+)", found.output.read_bytes())
+    if found.status == TOO_LONG or not number:
+        return None, None
+    return int(number[1]), found.seconds
 
 
 def shown(number, form):
@@ -235,14 +243,17 @@ def main():
                 paths.append(folder / (name + ".cnf"))
                 write_formula(paths[-1], *make())
         counts = shutil.which("valgrind") and not said.no_count
-        print("%-16s %9s %8s %8s %10s %8s" % HEADS)
+        print("%-16s %9s %8s %8s %10s %10s %8s" % HEADS)
         for path in paths:
             cubes, seconds, memory = listed(path, folder, said.limit)
             count = counted(path, folder, 20 * said.limit) if counts and seconds else None
-            clasp = by_clasp(path, folder, said.limit) if shutil.which("clasp") else None
+            points, clasp = None, None
+            if shutil.which("clasp"):
+                points, clasp = by_clasp(path, folder, said.limit)
             row = path.stem, shown(cubes, "%d"), shown(seconds, "%.2f"), shown(memory, "%.0f")
             print("%-16s %9s %8s %8s" % row, end=" ")
-            print("%10s %8s" % (shown(count, "%.0f"), shown(clasp, "%.2f")), flush=True)
+            row = shown(count, "%.0f"), shown(points, "%d"), shown(clasp, "%.2f")
+            print("%10s %10s %8s" % row, flush=True)
     finally:
         shutil.rmtree(folder)
 

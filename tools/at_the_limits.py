@@ -14,7 +14,7 @@ from itertools import chain, repeat
 from pathlib import Path
 
 TOP = Path(__file__).resolve().parent.parent
-PROGRAM = TOP / "crates" / "allsat_cli" / "out" / "allsat_cli"
+PROGRAM = TOP / "crates" / "allsat_cli" / "out" / "build" / "allsat"
 
 PIECE = 1 << 16
 
