@@ -2,6 +2,7 @@ pub mod Items
 pub mod Room
 pub mod Literals
 pub mod Tables
+pub mod Tabled
 pub mod Back
 pub mod Frees
 pub mod Pictures

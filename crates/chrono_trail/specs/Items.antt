@@ -52,6 +52,11 @@ abbrev pub value_in : ℤ → Option Item → Option Bool
 value_in l None = None
 value_in l (Some i) = Some (int_eq i.lit l)
 
+-- The level of the literal, where it is that of the item.
+abbrev pub level_if_true : ℤ → Option Item → Option ℕ
+level_if_true l None = None
+level_if_true l (Some i) = cond (int_eq i.lit l) (Some i.level) None
+
 -- The item is of level at most k.
 abbrev pub is_upto : ℕ → Item → Bool
 is_upto k i = nat_le i.level k

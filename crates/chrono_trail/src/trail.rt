@@ -3,7 +3,8 @@ ghost use Rattle.std.specs.Prelude.{◌≡◌, ℕ, ◌+◌, ◌<◌, ◌≤◌,
 ghost use Rattle.std.specs.Prelude.{None, IfOk, nat_abs, length, slice_set, slice_index_or, filter};
 ghost use Rattle.std.specs.Prelude.{take, nat_eq, vec_capacity};
 ghost use Rattle.std.specs.List.{All, list_all};
-ghost use Rattle.chrono_trail.specs.Items.{item_of, level_in, value_in, is_decision, is_upto};
+ghost use Rattle.chrono_trail.specs.Items.{item_of, level_in, level_if_true, value_in};
+ghost use Rattle.chrono_trail.specs.Items.{is_decision, is_upto};
 ghost use Rattle.chrono_trail.specs.Items.{depth_from, may_all_stand, decisions_from};
 ghost use Rattle.chrono_trail.specs.Items.{IsDecisionAt, IsAboveAt, HasPlace, goes};
 ghost use Rattle.chrono_trail.specs.Trails.{IsTrail, seen_back};
@@ -94,6 +95,14 @@ impl Trail {
             Some(item) => Some(item.level),
             None => None,
         }
+    }
+
+    /// The level of a literal that is true; None where it is not. It looks at one place.
+    pub fn level_of_true(&self, lit: i32) -> Option<u32>
+        requires { nat_abs lit ≤ self.now.variables }
+        ensures { result ≡ level_if_true lit (item_of self.now.items (nat_abs lit)) }
+    {
+        self.given.level_of_true(lit)
     }
 
     /// The item of a variable; None where it is unassigned. It looks at one place.

@@ -81,7 +81,7 @@ met_at clauses shown b items c d =
     ap (λ x. has_pair c || x) (any_alike (is_kept shown b (picture_of clauses items)) (is_kept_at shown b items) c (λ l. kept_at clauses shown b items l d))
 
 -- the literal of an item
-same_or_false : (items : List Item) (l : ℤ) (i : Item) → item_of items (nat_abs l) ≡ Some i → int_eq l i.lit ≡ false → is_false items l ≡ true
+pub same_or_false : (items : List Item) (l : ℤ) (i : Item) → item_of items (nat_abs l) ≡ Some i → int_eq l i.lit ≡ false → is_false items l ≡ true
 same_or_false items l i at other = false_from_other items l i at (λ same. both_ways (int_eq l i.lit) other (ap (int_eq l) same ∙ int_eq-same l))
 
 -- a literal that is kept at no level is false
@@ -139,7 +139,7 @@ met_right n shown b items d (l ∷ c) named met = elim (or_cases (is_kept_at sho
 
 -- ---- flips
 
-flipped_same : (clauses : List (List ℤ)) (k : Kind) → picture.is_flipped (kind_of clauses k) ≡ is_flip k
+pub flipped_same : (clauses : List (List ℤ)) (k : Kind) → picture.is_flipped (kind_of clauses k) ≡ is_flip k
 flipped_same clauses Assumed = refl
 flipped_same clauses Decided = refl
 flipped_same clauses Flipped = refl

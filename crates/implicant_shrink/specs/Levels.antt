@@ -1,5 +1,5 @@
 -- From which level on a literal, a clause and the flips of a trail are met.
-use Rattle.std.specs.Prelude.{ℕ, Bool, true, false, cond, nat_le, nat_abs, List, slice_index_or, ℤ, Option, Some, None}
+use Rattle.std.specs.Prelude.{◌≡◌, ℕ, ◌+◌, ◌<◌, ◌≤◌, Bool, true, false, ◌&&◌, cond, nat_le, nat_abs, List, length, slice_index_or, ℤ, Option, Some, None}
 use Rattle.std.specs.List.{list_any}
 use Rattle.std.specs.Ordering.{int_eq}
 use Rattle.chrono_trail.specs.declared.item.Kind.{Kind}
@@ -43,3 +43,18 @@ is_flip Decided = false
 is_flip Flipped = true
 is_flip (Turned id) = false
 is_flip (Implied id) = false
+
+-- The item is a shown decision turned over without a lemma.
+abbrev pub is_flip_of_shown : (ℕ → Bool) → Item → Bool
+is_flip_of_shown shown i = is_flip i.kind && shown (nat_abs i.lit)
+
+-- No item from this place on is one.
+abbrev pub AreNoFlips : (ℕ → Bool) → List Item → ℕ → Type 0
+AreNoFlips shown items from = (j : ℕ) (d : Item) → from ≤ j → j < length items →
+    is_flip_of_shown shown (slice_index_or items j d) ≡ false
+
+-- The last one stands at this place.
+pub record IsLastFlip (shown : ℕ → Bool) (items : List Item) (place : ℕ) : Type 0 where
+  pub inside : place < length items
+  pub here : (d : Item) → is_flip_of_shown shown (slice_index_or items place d) ≡ true
+  pub after : AreNoFlips shown items (place + 1)

@@ -48,6 +48,21 @@ abbrev pub IsLevelOf : Clauses → List Bool → TrailView → ℕ → ℕ → T
 IsLevelOf arena shown trail base b =
     IsLeastFrom base (marked shown) (picture_of arena.clauses trail.items) (formula_of arena) b
 
+-- From one level the least rises to b over the clauses of the numbers from `first` to below `end`:
+-- no level between the two is enough for the formula, and b and each one above meets these clauses.
+pub record RisesIn (shown : ℕ → Bool) (trail : List picture.Item) (f : List (List ℤ))
+    (first end level b : ℕ) : Type 0 where
+  pub above : level ≤ b
+  pub needed : (m : ℕ) → level ≤ m → m < b → list_all (is_met shown m trail) f ≡ false
+  pub met : (m id : ℕ) → b ≤ m → first ≤ id → id < end →
+      is_met shown m trail (slice_index_or f id []) ≡ true
+
+-- The same over the arena's formula.
+abbrev pub RisesOver : Clauses → List Bool → TrailView → ℕ → ℕ → ℕ → ℕ → Type 0
+RisesOver arena shown trail first end level b =
+    RisesIn (marked shown) (picture_of arena.clauses trail.items) (formula_of arena)
+    first end level b
+
 -- What shrinking came to: the least level, where no clause is false, or the first false clause.
 abbrev pub Shrinks : Clauses → List Bool → TrailView → ℕ → Shrunk → Type 0
 Shrinks arena shown trail base (Level b) = IsLevelOf arena shown trail base b

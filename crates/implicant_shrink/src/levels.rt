@@ -1,12 +1,14 @@
 //! The levels from which on literals, clauses and flips are met.
-ghost use Rattle.std.specs.Prelude.{◌≡◌, ℕ, ◌+◌, ◌<◌, ◌≤◌, ◌&&◌, ◌||◌, true, cond, nat_le, length, List, ℤ, nat_abs, IfSome};
-ghost use Rattle.std.specs.List.{All};
+ghost use Rattle.std.specs.Prelude.{◌≡◌, ℕ, ◌+◌, ◌<◌, ◌≤◌, ◌||◌, true, cond, nat_le, length, List, ℤ, nat_abs};
+ghost use Rattle.std.specs.Prelude.{IfSome, MatchOption, take};
+ghost use Rattle.std.specs.List.{All, list_all};
 ghost use Rattle.sat_terms.specs.Literals.{IsLiteralOf};
 ghost use Rattle.sat_terms.specs.Cubes.{has_literal};
 ghost use Rattle.search_region.specs.Model.{keeps_flips};
-ghost use Rattle.chrono_trail.specs.Items.{item_of, HasPlace};
+ghost use Rattle.chrono_trail.specs.Items.{item_of, is_upto, HasPlace};
 ghost use Rattle.chrono_trail.specs.Pictures.{picture_of};
 ghost use Rattle.implicant_shrink.specs.Levels.{marked, is_flip, is_at_most, level_by, is_met_at, met_level};
+ghost use Rattle.implicant_shrink.specs.Levels.{is_flip_of_shown, AreNoFlips, IsLastFlip};
 
 use chrono_trail::{Item, Kind, Trail};
 
@@ -20,8 +22,52 @@ pub(crate) struct Met {
 }
 
 /// The greatest level of a shown literal that was flipped; 0 where there is none. A cube has to
-/// hold these, or it would overlap one that was found on the other side.
-pub(crate) fn flips_level(items: &[Item], shown: &[bool]) -> u32
+/// hold these, or it would overlap one that was found on the other side. Where flips stand in the
+/// order of their levels, the walk ends at the last one; else it goes over all items.
+pub(crate) fn flips_level(trail: &Trail, shown: &[bool]) -> u32
+    requires { length shown.now ≡ trail.now.variables + 1 }
+    ensures { (clauses : List (List ℤ)) (b : ℕ) →
+        keeps_flips (marked shown.now) b (picture_of clauses trail.now.items) ≡ nat_le result b }
+{
+    let items = trail.items();
+    match last_flip(items, shown) {
+        None => 0,
+        Some(place) => {
+            let level = items[place].level;
+            if are_upto(trail, place, level) {
+                level
+            } else {
+                greatest_flip(items, shown)
+            }
+        }
+    }
+}
+
+/// Whether the items before this place are surely of at most this level.
+fn are_upto(trail: &Trail, place: usize, level: u32) -> bool
+    ensures { result ≡ true → list_all (is_upto level) (take place trail.now.items) ≡ true }
+{
+    level >= trail.level() || trail.decision(level + 1) >= place
+}
+
+/// The place of the last shown literal that was flipped.
+fn last_flip(items: &[Item], shown: &[bool]) -> Option<usize>
+    requires { All (HasPlace (length shown.now)) items.now }
+    ensures { MatchOption result (AreNoFlips (marked shown.now) items.now 0)
+        (IsLastFlip (marked shown.now) items.now) }
+{
+    let mut end = items.len();
+    while end > 0 {
+        end -= 1;
+        if is_shown_flip(shown, &items[end]) {
+            return Some(end);
+        }
+    }
+    None
+}
+
+/// The greatest level of a shown literal that was flipped; 0 where there is none.
+pub(crate) fn greatest_flip(items: &[Item], shown: &[bool]) -> u32
     requires { All (HasPlace (length shown.now)) items.now }
     ensures { (clauses : List (List ℤ)) (b : ℕ) →
         keeps_flips (marked shown.now) b (picture_of clauses items.now) ≡ nat_le result b }
@@ -38,7 +84,7 @@ pub(crate) fn flips_level(items: &[Item], shown: &[bool]) -> u32
 /// Whether this is a shown literal that was flipped without a lemma for it.
 fn is_shown_flip(shown: &[bool], item: &Item) -> bool
     requires { HasPlace (length shown.now) item.now }
-    ensures { result ≡ (is_flip item.now.kind && marked shown.now (nat_abs item.now.lit)) }
+    ensures { result ≡ is_flip_of_shown (marked shown.now) item.now }
 {
     is_flip(item.kind) && shown[item.lit.unsigned_abs() as usize]
 }
@@ -60,13 +106,8 @@ pub(crate) fn literal_level(trail: &Trail, shown: &[bool], lit: i32) -> Option<u
     requires named { nat_abs lit ≤ trail.now.variables }
     ensures { result ≡ level_by (marked shown.now) lit (item_of trail.now.items (nat_abs lit)) }
 {
-    let variable = lit.unsigned_abs();
-    let item = trail.item(variable)?;
-    if item.lit == lit {
-        Some(needed_level(shown, variable, item.level))
-    } else {
-        None
-    }
+    let own = trail.level_of_true(lit)?;
+    Some(needed_level(shown, lit.unsigned_abs(), own))
 }
 
 /// The level of a shown variable, and 0 of a hidden one.

@@ -5,20 +5,23 @@ ghost use Rattle.sat_terms.specs.Literals.{IsLiteralOf};
 ghost use Rattle.chrono_trail.specs.Clauses.{is_false_clause};
 ghost use Rattle.implicant_shrink.specs.Levels.{marked, is_kept_at};
 ghost use Rattle.implicant_shrink.specs.Shrinking.{formula_of, CanShrink, IsLevelOf, IsFor};
+ghost use Rattle.implicant_shrink.specs.Shrinking.{RisesOver};
 
-use crate::levels::{flips_level, least, literal_level};
+use crate::levels::{flips_level, least};
 use crate::pairs::find_pairs;
 use chrono_trail::Trail;
 use clause_arena::Arena;
 use std::alloc::{AllocError, Global};
 use std::marker::Model;
 
-/// What shrinking keeps of a formula. The literal that met a clause last is tried first in the next
-/// call.
+/// What shrinking keeps of a formula: the literal that met each clause last, which is tried first
+/// in the next call, and the clause that raised the level last, with which the next call begins.
+/// Neither changes what a call comes to.
 #[derive(Debug, Drop)]
 pub struct Shrinker {
     pairs: Vec<bool>,
     tried: Vec<i32>,
+    first: u32,
 }
 
 impl Model for Shrinker {
@@ -39,12 +42,17 @@ impl Shrinker {
     {
         let pairs = find_pairs(alloc, arena, variables)?;
         let tried = vec![in alloc; 0i32; arena.base() as usize]?;
-        Ok(Shrinker { pairs, tried })
+        Ok(Shrinker {
+            pairs,
+            tried,
+            first: 0,
+        })
     }
 
     /// The least level, not below `base`, whose shown literals and all hidden ones meet the
     /// formula. No clause of it is false. A clause is looked at only where its literal to try first
-    /// is not enough, and then up to the first literal that is.
+    /// is not enough, and then up to the first literal that is; none is once the level is that of
+    /// the trail.
     pub fn level(&mut self, arena: &Arena, shown: &[bool], trail: &Trail, base: u32) -> u32
         requires formula { IsFor (formula_of arena.now) self.old }
         requires full { CanShrink arena.now shown.now trail.now }
@@ -52,8 +60,37 @@ impl Shrinker {
         ensures least { IsLevelOf arena.now shown.now trail.now base result }
         ensures formula { IsFor (formula_of arena.now) self.new }
     {
-        let mut level = base.max(flips_level(trail.items(), shown));
-        for id in 0..arena.base() {
+        let clauses = arena.base();
+        let first = self.first.min(clauses);
+        let flips = base.max(flips_level(trail, shown));
+        let level = self.rise(arena, shown, trail, first, clauses, flips);
+        self.rise(arena, shown, trail, 0, first, level)
+    }
+
+    /// The least level from this one on that meets the clauses from the one of number `from` to the
+    /// one before `end`, or one that is as needed by others.
+    fn rise(
+        &mut self,
+        arena: &Arena,
+        shown: &[bool],
+        trail: &Trail,
+        from: u32,
+        end: u32,
+        level: u32,
+    ) -> u32
+        requires formula { IsFor (formula_of arena.now) self.old }
+        requires full { CanShrink arena.now shown.now trail.now }
+        requires met { list_any (is_false_clause trail.now.items) (formula_of arena.now) ≡ false }
+        requires within { end ≤ length (formula_of arena.now) }
+        ensures rises { RisesOver arena.now shown.now trail.now from end level result }
+        ensures formula { IsFor (formula_of arena.now) self.new }
+    {
+        let mut level = level;
+        let top = trail.level();
+        if level >= top {
+            return level;
+        }
+        for id in from..end {
             let place = id as usize;
             if is_kept(trail, shown, self.tried[place], level) {
                 continue;
@@ -62,6 +99,10 @@ impl Shrinker {
             self.tried[place] = met.lit;
             if met.level > level && !self.pairs[place] {
                 level = met.level;
+                self.first = id;
+                if level >= top {
+                    return level;
+                }
             }
         }
         level
@@ -74,8 +115,8 @@ fn is_kept(trail: &Trail, shown: &[bool], lit: i32, level: u32) -> bool
     requires named { nat_abs lit ≤ trail.now.variables }
     ensures { result ≡ is_kept_at (marked shown.now) level trail.now.items lit }
 {
-    match literal_level(trail, shown, lit) {
-        Some(least) => least <= level,
+    match trail.level_of_true(lit) {
+        Some(own) => own <= level || !shown[lit.unsigned_abs() as usize],
         None => false,
     }
 }

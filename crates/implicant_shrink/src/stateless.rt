@@ -5,7 +5,7 @@ ghost use Rattle.sat_terms.specs.Literals.{IsLiteral};
 ghost use Rattle.sat_terms.specs.Cubes.{has_literal, has_pair};
 ghost use Rattle.implicant_shrink.specs.Shrinking.{CanShrink, Shrinks};
 
-use crate::levels::{flips_level, least};
+use crate::levels::{greatest_flip, least};
 use chrono_trail::Trail;
 use clause_arena::Arena;
 
@@ -25,7 +25,7 @@ pub fn shrink(arena: &Arena, shown: &[bool], trail: &Trail, base: u32) -> Shrunk
     requires { CanShrink arena.now shown.now trail.now }
     ensures { Shrinks arena.now shown.now trail.now base result }
 {
-    let mut level = base.max(flips_level(trail.items(), shown));
+    let mut level = base.max(greatest_flip(trail.items(), shown));
     for id in 0..arena.base() {
         let clause = arena.lits(id);
         match least(trail, shown, clause, level) {

@@ -31,7 +31,7 @@ impl Search {
         ensures { ComesTo self.old self.new result }
     {
         let level = self.least_level();
-        self.read_cube(spare, level);
+        self.read_cube(alloc, spare, level);
         self.copy_model();
         self.found.push_reserved(exact_cube(alloc, spare));
         self.leaves = counted(self.leaves);
@@ -70,7 +70,7 @@ impl Search {
     }
 
     /// Reads off the shown literals up to this level.
-    fn read_cube(&self, spare: &mut Vec<i32>, level: u32)
+    fn read_cube(&self, alloc: Global, spare: &mut Vec<i32>, level: u32)
         requires searching { IsSearching self.now }
         requires empty { spare.old.items ≡ [] }
         requires room { length self.now.shown.items ≤ vec_capacity spare.old }
@@ -78,13 +78,16 @@ impl Search {
         ensures rising { rises_above 0 spare.new.items ≡ true }
         ensures literals { All IsLiteral spare.new.items }
     {
+        // Taken out, so that its place and length need not be written for each literal.
+        let mut lits = replace(spare, Vec::new(alloc));
         for variable in self.shown.as_slice() {
             if let Some(item) = self.trail.item(*variable) {
                 if item.level <= level {
-                    spare.push_reserved(item.lit);
+                    lits.push_reserved(item.lit);
                 }
             }
         }
+        *spare = lits;
     }
 }
 

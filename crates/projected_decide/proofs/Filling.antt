@@ -34,6 +34,13 @@ order_within n shown s =
     (All-filter (λ u. not (is_among shown u)) (λ v. v ≤ n) (range_with_len 1 n)
     (λ k d inside. let size = length-range_with_len 1 n in let at = get_or-range_with_len 1 n k d (omega arith) in omega arith))
 
+pub order_named : (n : ℕ) (shown : List ℕ) → IsShown n shown → All (λ v. 0 < v) (order_of n shown)
+order_named n shown s =
+    All-append (λ v. 0 < v) shown (filter (λ u. not (is_among shown u)) (range_with_len 1 n))
+    (All-weaker (λ v. (0 < v) × (v ≤ n)) (λ v. 0 < v) (λ v h. h.0) shown s.named)
+    (All-filter (λ u. not (is_among shown u)) (λ v. 0 < v) (range_with_len 1 n)
+    (λ k d inside. let size = length-range_with_len 1 n in let at = get_or-range_with_len 1 n k d (omega arith) in omega arith))
+
 pub order_short : (n : ℕ) (shown : List ℕ) → IsShown n shown → length (order_of n shown) ≤ suc n + n
 order_short n shown s =
     let rest = filter (λ u. not (is_among shown u)) (range_with_len 1 n) in

@@ -1,6 +1,8 @@
 -- What is decided next is the lowest free variable.
 use Rattle.std.proofs.Common.{◌≡◌, ℕ, zero, suc, ◌<◌, ◌≤◌, Bool, true, false, not, nat_eq, List, [], ◌∷◌, ◌++◌, length, get_or, take, filter, ℤ, pos, neg_ℤ, nat_abs, Option, Some, None, is_some, refl, sym, ap, subst, ◌∙◌, ◌⊎◌, inl, inr, arith}
-use Rattle.std.specs.List.{list_all, range_with_len}
+use Rattle.std.specs.List.{All, list_all, range_with_len}
+use Rattle.std.proofs.lemmas.List.{take_all}
+use Rattle.std.proofs.lemmas.List.Elements.{All-head, All-tail}
 use Rattle.std.proofs.lemmas.Bool.{and_parts, and_from, or_cases, or_left, or_right, both_ways, cases_Bool, eqb-true, eq-eqb, not-true, not_from_false}
 use Rattle.std.proofs.lemmas.List.Kept.{AllPairs-from_increasing, AllPairs-filter}
 use Rattle.std.proofs.lemmas.List.FromFn.{get_or-range_with_len, length-range_with_len}
@@ -9,6 +11,8 @@ use Rattle.sat_terms.specs.Subjects.{IsShown}
 use Rattle.sat_terms.proofs.Variables.{All-among}
 use Rattle.chrono_trail.specs.declared.item.Item.{Item}
 use Rattle.chrono_trail.specs.Items.{item_of}
+use Rattle.chrono_trail.specs.Trails.{IsTrail}
+use Rattle.chrono_trail.proofs.Room.{room_for}
 use Rattle.projected_decide.specs.Orders.{order_of, is_set, next_decision}
 use Rattle.projected_decide.specs.Laws.{IsLowestFree}
 use Rattle.projected_decide.proofs.Variables.{Rise, rise_tail, rise_head, among-filter, among_range, range_among}
@@ -30,6 +34,30 @@ next_end items (v ∷ later) zero set end = absurd (omega arith)
 next_end items (v ∷ later) (suc r) set end =
     let (now, rest) = and_parts (is_set items v) (list_all (is_set items) (take r later)) set in
     rw now (next_end items later r rest (omega arith))
+
+is_free : (items : List Item) (v : ℕ) → is_set items v ≡ false → item_of items v ≡ None
+is_free items v h = by (item_of items v) h
+  where
+    by : (o : Option Item) → is_some o ≡ false → o ≡ None
+    by None e = refl
+    by (Some i) e = cc
+
+-- with an item of each variable the walk is at its end
+pub all_set : (n : ℕ) (items : List Item) (level : ℕ) (order : List ℕ) → IsTrail n items level → n ≤ length items → All (λ v. 0 < v) order → All (λ v. v ≤ n) order →
+    list_all (is_set items) order ≡ true
+all_set n items level [] trail full named within = refl
+all_set n items level (v ∷ later) trail full named within =
+    and_from (is_set items v) (list_all (is_set items) later)
+    (elim (cases_Bool (is_set items v)) [
+      | inl set ↦ set
+      | inr free ↦ absurd (let room = room_for n items level v trail (All-head (λ u. 0 < u) v later named) (All-head (λ u. u ≤ n) v later within) (is_free items v free) in omega arith)
+    ])
+    (all_set n items level later trail full (All-tail (λ u. 0 < u) v later named) (All-tail (λ u. u ≤ n) v later within))
+
+pub full_ends : (n : ℕ) (items : List Item) (level : ℕ) (order : List ℕ) → IsTrail n items level → n ≤ length items → All (λ v. 0 < v) order → All (λ v. v ≤ n) order →
+    next_decision items order ≡ None
+full_ends n items level order trail full named within =
+    next_end items order (length order) (ap (list_all (is_set items)) (take_all (length order) order (omega arith)) ∙ all_set n items level order trail full named within) (omega arith)
 
 -- ---- what the answer says of a list
 
@@ -115,13 +143,6 @@ none_of_two items (v ∷ later) ys h = elim (cases_Bool (is_set items v)) [
 ]
 
 -- ---- the order of a projection
-
-is_free : (items : List Item) (v : ℕ) → is_set items v ≡ false → item_of items v ≡ None
-is_free items v h = by (item_of items v) h
-  where
-    by : (o : Option Item) → is_some o ≡ false → o ≡ None
-    by None e = refl
-    by (Some i) e = cc
 
 hidden : List ℕ → ℕ → Bool
 hidden shown v = not (is_among shown v)

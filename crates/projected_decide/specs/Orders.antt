@@ -36,9 +36,10 @@ place_in v (u ∷ later) = cond (nat_eq v u) 0 (suc (place_in v later))
 abbrev pub HasPassed : List Item → OrderView → Type 0
 HasPassed items o = list_all (is_set items) (take o.from o.order) ≡ true
 
--- The variables of the order are those of the table, which tells the place of each.
+-- The variables of the order are from 1 on, and those of the table, which tells the place of each.
 pub record TellsPlaces (order places : List ℕ) : Type 0 where
   pub some : 0 < length places
   pub small : length places ≤ 2 ^ 31
   pub within : All (λ v. v < length places) order
+  pub named : All (λ v. 0 < v) order
   pub tells : (v : ℕ) → v < length places → slice_index places v ≡ place_in v order

@@ -54,7 +54,7 @@ impl Order {
 
     /// The literal to decide next: the first unassigned variable's, false; None where each is
     /// assigned. The place moves on to this variable, and not past it. The time is that of the
-    /// places that it passes.
+    /// places that it passes; none is looked at where there is an item of each variable.
     pub fn next(&mut self, trail: &Trail) -> Option<i32>
         requires variables { self.old.variables ≡ trail.now.variables }
         requires passed { HasPassed trail.now.items self.old }
@@ -62,6 +62,9 @@ impl Order {
         ensures passed { HasPassed trail.now.items self.new }
         ensures order { self.new ≡ record self.old { from = self.new.from } }
     {
+        if trail.items().len() + 1 >= self.places.len() {
+            return None;
+        }
         self.from = first_free(trail, self.order.as_slice(), self.from);
         if self.from < self.order.len() {
             Some(-(self.order[self.from] as i32))

@@ -1,15 +1,18 @@
 -- Literals that are true or false under a trail.
-use Rattle.std.proofs.Common.{◌≡◌, ◌<◌, ◌||◌, Bool, true, false, not, List, [], ◌∷◌, ◌++◌, ℕ, ℤ, neg_ℤ, nat_abs, nat_eq, Option, Some, None, refl, sym, ap, ap₂, subst, ◌∙◌, inl, inr, take, drop}
+use Rattle.std.proofs.Common.{◌≡◌, ◌<◌, ◌≤◌, ◌||◌, arith, Bool, true, false, not, List, [], ◌∷◌, ◌++◌, ℕ, ℤ, neg_ℤ, nat_abs, nat_eq, Option, Some, None, refl, sym, ap, ap₂, subst, ◌∙◌, inl, inr, take, drop}
 use Rattle.std.specs.Ordering.{int_eq}
-use Rattle.std.proofs.lemmas.Bool.{both_ways, or_left, or_right, cases_Bool, false_from_ne_true}
+use Rattle.std.proofs.lemmas.Bool.{both_ways, or_cases, or_left, or_right, cases_Bool, false_from_ne_true}
 use Rattle.std.proofs.lemmas.List.Folds.{list_any-append}
 use Rattle.std.proofs.lemmas.List.{take-append-drop}
 use Rattle.sat_terms.proofs.CubeLemmas.{neg-neg, nat_abs-neg, int_eq-true}
 use Rattle.search_region.proofs.Literals.{test_from_same, same_variable}
 use Rattle.chrono_trail.specs.declared.item.Item.{Item}
-use Rattle.chrono_trail.specs.Items.{item_of, value_in, are_distinct}
-use Rattle.chrono_trail.specs.Clauses.{is_true, is_false}
-use Rattle.chrono_trail.proofs.Clauses.{item_variable, free_not_false, false_from_other, true_not_false}
+use Rattle.sat_terms.specs.Cubes.{has_literal}
+use Rattle.chrono_trail.specs.Items.{item_of, value_in, level_in, are_distinct}
+use Rattle.chrono_trail.specs.Trails.{IsTrail}
+use Rattle.chrono_trail.specs.Clauses.{is_true, is_false, level_or_zero, rest_level}
+use Rattle.chrono_trail.proofs.Back.{all_low}
+use Rattle.chrono_trail.proofs.Clauses.{level_told, low_rest, item_variable, free_not_false, false_from_other, true_not_false}
 
 -- a literal is false where its negation is on the trail
 test_negated : (l x : ℤ) → int_eq (neg_ℤ l) x ≡ int_eq l (neg_ℤ x)
@@ -119,3 +122,26 @@ false_more items more l off = list_any-append (λ (i : Item). int_eq l (neg_ℤ 
 -- what is false by the first items is false
 pub false_front : (items : List Item) (n : ℕ) (l : ℤ) → is_false (take n items) l ≡ true → is_false items l ≡ true
 false_front items n l off = subst (λ xs. is_false xs l ≡ true) (take-append-drop n items) (false_more (take n items) (drop n items) l off)
+
+-- the level of a false literal of a clause is not above that of the rest
+pub level_in_rest : (items : List Item) (l from : ℤ) (c : List ℤ) → has_literal c from ≡ true → (from ≡ l → ⊥) →
+    level_or_zero (item_of items (nat_abs from)) ≤ rest_level items l c
+level_in_rest items l from [] among differs = absurd (both_ways false refl among)
+level_in_rest items l from (m ∷ c) among differs = elim (or_cases (int_eq from m) (has_literal c from) among) [
+  | inl here ↦
+      let same = int_eq-true from m here in
+      let other : int_eq m l ≡ false = false_from_ne_true (int_eq m l) (λ e. differs (same ∙ int_eq-true m l e)) in
+      let level : level_or_zero (item_of items (nat_abs from)) ≡ level_or_zero (item_of items (nat_abs m)) = ap (λ k. level_or_zero (item_of items (nat_abs k))) same in
+      rw other (omega arith)
+  | inr later ↦ let more = level_in_rest items l from c later differs in omega arith
+]
+
+-- on the current level it is that of the rest
+pub top_of_rest : (n : ℕ) (items : List Item) (top : ℕ) (l from : ℤ) (c : List ℤ) → IsTrail n items top → has_literal c from ≡ true → (from ≡ l → ⊥) →
+    (k : ℕ) → top ≤ k → Some k ≡ level_in (item_of items (nat_abs from)) → k ≡ rest_level items l c
+top_of_rest n items top l from c trail among differs k high told =
+    let level = level_told (item_of items (nat_abs from)) k told in
+    let under = level_in_rest items l from c among differs in
+    let current = trail.current in
+    let over = low_rest items l top c (all_low 0 top items trail.stands (omega arith)) in
+    omega arith

@@ -1,11 +1,12 @@
 //! Unit propagation: what the clauses imply under a trail, or a clause that is false.
 //!
-//! It scans all clauses until nothing moves. Each implied literal stands on its true level, the
-//! greatest level of the other literals of its clause, so that it survives where levels above that
-//! are taken back (Nadel and Ryvchin, Chronological Backtracking, SAT 2018).
+//! For each literal that became false it walks the list of the clauses that watch it. Each implied
+//! literal stands on its true level, the greatest level of the other literals of its clause, so
+//! that it survives where levels above that are taken back (Nadel and Ryvchin, Chronological
+//! Backtracking, SAT 2018).
 //!
-//! It rests on `clause_arena` for the clauses and on `chrono_trail` for the trail, which alone it
-//! changes.
+//! It rests on `clause_arena` for the clauses, on `watch_lists` for the lists, and on
+//! `chrono_trail` for the trail.
 #![tactic(auto)]
 
 pub mod laws;

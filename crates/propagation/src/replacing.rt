@@ -2,13 +2,13 @@
 ghost use Rattle.std.specs.Prelude.{◌≡◌, ◌≢◌, ◌≤◌, true, length, MatchOption};
 ghost use Rattle.std.specs.List.{All, list_all};
 ghost use Rattle.chrono_trail.specs.Items.{are_distinct};
-ghost use Rattle.chrono_trail.specs.Clauses.{is_or_false};
+ghost use Rattle.chrono_trail.specs.Clauses.{is_or_false, rest_level};
 ghost use Rattle.sat_terms.specs.Cubes.{has_literal};
 ghost use Rattle.sat_terms.specs.Literals.{IsLiteralOf};
 ghost use Rattle.propagation.specs.Walking.{MayWatch};
 
 use crate::values::is_false;
-use chrono_trail::Trail;
+use chrono_trail::{Trail, level_of_rest};
 
 /// The first of these literals that is not false, and not the other watched one.
 fn first_not_false(trail: &Trail, lits: &[i32], other: i32) -> Option<i32>
@@ -40,6 +40,21 @@ pub(crate) fn replacement(trail: &Trail, clause: &[i32], other: i32) -> Option<i
     match first_not_false(trail, &clause[2..], other) {
         Some(lit) => Some(lit),
         None => first_not_false(trail, &clause[..2], other),
+    }
+}
+
+/// The level of a literal that the clause implies: the greatest one of the other literals, which
+/// are false. Where `from`, one of these, is on the current level, no other is looked at.
+pub(crate) fn true_level(trail: &Trail, clause: &[i32], other: i32, from: i32) -> u32
+    requires named { All (IsLiteralOf trail.now.variables) clause.now }
+    requires among { has_literal clause.now from ≡ true }
+    requires differs { from ≢ other }
+    ensures { result ≡ rest_level trail.now.items other clause.now }
+{
+    let top = trail.level();
+    match trail.level_of(from.unsigned_abs()) {
+        Some(level) if level >= top => level,
+        _ => level_of_rest(trail, clause, other),
     }
 }
 

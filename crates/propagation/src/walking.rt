@@ -6,9 +6,9 @@ ghost use Rattle.watch_lists.specs.Views.{Stands, lit_of};
 ghost use Rattle.propagation.specs.Steps.{Propagates, IsFalseOf};
 ghost use Rattle.propagation.specs.Walking.{IsReady, IsSameBut, IsVisited, IsPassed, IsNextFalse};
 
-use crate::replacing::{on_level, replacement};
+use crate::replacing::{on_level, replacement, true_level};
 use crate::values::{is_false, is_true};
-use chrono_trail::{Kind, Trail, level_of_rest};
+use chrono_trail::{Kind, Trail};
 use clause_arena::Arena;
 use watch_lists::{Watch, Watches};
 
@@ -41,7 +41,7 @@ fn visit(watches: &mut Watches, arena: &Arena, trail: &mut Trail, watch: Watch) 
     if is_false(trail, other) {
         return false;
     }
-    let level = level_of_rest(trail, clause, other);
+    let level = true_level(trail, clause, other, from);
     let highest = on_level(trail, clause, level, other, from);
     trail.assign(other, level, Kind::Implied(id));
     if highest != from {

@@ -1,30 +1,23 @@
-use Rattle.std.proofs.Common.{◌&&◌, ◌||◌, ℕ, not, nat_le, pos, get_or, take, sym, ap, ◌∙◌}
+use Rattle.std.proofs.Common.{◌≡◌, ℕ, true, take, get_or, sym, ap, subst, ◌∙◌}
+use Rattle.std.specs.List.{list_all}
 use Rattle.search_region.specs.Model.{keeps_flips}
-use Rattle.chrono_trail.specs.declared.item.Kind.TheVariants.{Assumed}
-use Rattle.chrono_trail.specs.declared.item.Item.{Item}
+use Rattle.chrono_trail.specs.Items.{is_upto}
 use Rattle.chrono_trail.specs.Pictures.{picture_of}
 use Rattle.implicant_shrink.specs.Levels.{marked}
-use Rattle.implicant_shrink.proofs.Kept.{flips_more, within_both}
+use Rattle.implicant_shrink.proofs.Flips.{nothing, no_flips, flips_by_last}
 use Rattle.implicant_shrink.proofs.levels.flips_level.Goals as goal
-use Rattle.implicant_shrink.proofs.levels.flips_level.Goals.{then-is_shown_flip, else-is_shown_flip}
 
-pub loop-item-preserved : goal.loop-item-preserved
-loop-item-preserved c =
-    let items = c.args.items.now in
+pub returns-in-None : goal.returns-in-None
+returns-in-None c = λ clauses b.
     let shown = marked c.args.shown.now in
-    let i : ℕ = c.loop-item.item-index in
-    let none : Item = record { lit = pos 0; level = 0; kind = Assumed } in
-    let e : Item = get_or items i none in
-    elim c.if-is_shown_flip.branch [
-      | then-is_shown_flip w ↦
-          λ clauses b. flips_more clauses shown b items i none c.loop-item-test.true
-          ∙ ap (λ x. (not x || nat_le e.level b) && keeps_flips shown b (picture_of clauses (take i items))) (sym c.is_shown_flip.ensures ∙ w.if-is_shown_flip.true)
-          ∙ ap (λ x. nat_le e.level b && x) (c.loop-item.invariant clauses b)
-          ∙ within_both e.level b c.loop-item.level
-          ∙ ap (λ k. nat_le k b) (sym (w.level-is ∙ w.max-level.ensures))
-      | else-is_shown_flip w ↦
-          λ clauses b. flips_more clauses shown b items i none c.loop-item-test.true
-          ∙ ap (λ x. (not x || nat_le e.level b) && keeps_flips shown b (picture_of clauses (take i items))) (sym c.is_shown_flip.ensures ∙ w.if-is_shown_flip.false)
-          ∙ c.loop-item.invariant clauses b
-          ∙ ap (λ k. nat_le k b) (sym w.level-is)
-    ]
+    ap (λ xs. keeps_flips shown b (picture_of clauses xs)) (sym c.items-items.ensures.items)
+    ∙ no_flips clauses shown c.items-items.result.now c.in-None.ensures b
+
+pub returns-then-are_upto : goal.returns-then-are_upto
+returns-then-are_upto c = λ clauses b.
+    let shown = marked c.args.shown.now in
+    let items = c.items-items.result.now in
+    let place : ℕ = c.in-Some.place in
+    ap (λ xs. keeps_flips shown b (picture_of clauses xs)) (sym c.items-items.ensures.items)
+    ∙ flips_by_last clauses shown items place c.in-Some.ensures
+    (subst (λ xs. list_all (is_upto (get_or items place nothing).level) (take place xs) ≡ true) (sym c.items-items.ensures.items) (c.are_upto.ensures c.if-are_upto.true)) b

@@ -1,4 +1,4 @@
-use Rattle.std.proofs.Common.{◌≡◌, ◌≤◌, ℤ, nat_abs, sym, subst, ◌∙◌, rules}
+use Rattle.std.proofs.Common.{◌≤◌, sym, subst, ◌∙◌, rules}
 use mir.Syntax.{w32}
 use mir.Val.{SFits}
 use Rattle.sat_terms.specs.Literals.{IsLiteralOf}

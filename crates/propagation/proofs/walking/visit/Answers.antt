@@ -157,8 +157,8 @@ returns-then-is_false-clause-conflict c =
     subst (λ xs. list_all (is_or_false t.items other) xs ≡ true) clause_is (subst (λ z. list_all (is_or_false t.items z) c.lits-clause.result.now ≡ true) other_is c.in_default.ensures) in
     (λ _. (two.inside, all_false t.items (get_or clauses (n / 2) []) other rest off))
 
-pub level_of_rest-level-requires : goal.level_of_rest-level-requires
-level_of_rest-level-requires c =
+pub true_level-level-requires-clause-named : goal.true_level-level-requires-clause-named
+true_level-level-requires-clause-named c =
     let clauses = c.args.arena.now.clauses in
     let v : ListsView = c.args.watches.now in
     let t : TrailView = c.args.trail.now in
@@ -171,6 +171,22 @@ level_of_rest-level-requires c =
     let other_named : IsLiteralOf t.variables other = watch_named t.variables clauses (n / 2) other c.requires.ready.named two.inside two.other_among in
     let all_named : All (IsLiteralOf t.variables) c.lits-clause.result.now = subst (All (IsLiteralOf t.variables)) (sym clause_is) (c.requires.ready.named (n / 2) [] two.inside) in
     all_named
+
+pub true_level-level-requires-clause-among : goal.true_level-level-requires-clause-among
+true_level-level-requires-clause-among c =
+    let clauses = c.args.arena.now.clauses in
+    let v : ListsView = c.args.watches.now in
+    let t : TrailView = c.args.trail.now in
+    let n : ℕ = c.args.watch.place in
+    let two : IsOneOfTwo v clauses n = two_of v clauses n c.requires.ready.watching c.requires.stands in
+    let clause_is : c.lits-clause.result.now ≡ get_or clauses (n / 2) [] = c.lits-clause.ensures.clause ∙ ap (λ i. get_or clauses i []) c.clause-id.ensures in
+    let other : ℤ = lit_of v (partner n) in
+    let other_fits : SFits w32 c.other-other.result = search rules in
+    let other_is : to_z w32 (of_z w32 c.other-other.result) ≡ other = to_z-of_z w32 c.other-other.result other_fits ∙ c.other-other.ensures in
+    let other_named : IsLiteralOf t.variables other = watch_named t.variables clauses (n / 2) other c.requires.ready.named two.inside two.other_among in
+    let all_named : All (IsLiteralOf t.variables) c.lits-clause.result.now = subst (All (IsLiteralOf t.variables)) (sym clause_is) (c.requires.ready.named (n / 2) [] two.inside) in
+    let from_fits : SFits w32 c.literal-from.result = search rules in
+    subst (λ z. has_literal c.lits-clause.result.now z ≡ true) (sym (to_z-of_z w32 c.literal-from.result from_fits ∙ c.literal-from.ensures)) (subst (λ xs. has_literal xs (lit_of v n) ≡ true) (sym clause_is) two.among)
 
 pub on_level-highest-requires-clause-named : goal.on_level-highest-requires-clause-named
 on_level-highest-requires-clause-named c =
@@ -265,7 +281,7 @@ assign-requires-clause-below c =
     let other_is : to_z w32 (of_z w32 c.other-other.result) ≡ other = to_z-of_z w32 c.other-other.result other_fits ∙ c.other-other.ensures in
     let other_named : IsLiteralOf t.variables other = watch_named t.variables clauses (n / 2) other c.requires.ready.named two.inside two.other_among in
     let all_named : All (IsLiteralOf t.variables) c.lits-clause.result.now = subst (All (IsLiteralOf t.variables)) (sym clause_is) (c.requires.ready.named (n / 2) [] two.inside) in
-    subst (λ k. k ≤ t.level) (sym c.level_of_rest-level.ensures) (true_level_low t.variables t.items t.level (to_z w32 (of_z w32 c.other-other.result)) c.lits-clause.result.now c.requires.ready.stands)
+    subst (λ k. k ≤ t.level) (sym c.true_level-level.ensures) (true_level_low t.variables t.items t.level (to_z w32 (of_z w32 c.other-other.result)) c.lits-clause.result.now c.requires.ready.stands)
 
 pub move_watch-requires-then-highest-from-clause-listed : goal.move_watch-requires-then-highest-from-clause-listed
 move_watch-requires-then-highest-from-clause-listed c =
@@ -304,8 +320,8 @@ returns-then-highest-from-clause-ready c =
     let here : IsUnit t.items other (get_or clauses (n / 2) []) = unit clauses v t n c.requires.ready c.requires.stands (subst (λ z. is_true t.items z ≡ false) other_is (sym c.is_true.ensures ∙ c.if-is_true.false)) off rest in
     let new : TrailView = c.assign.new.self in
     let grown : new.items ≡ t.items ++ implied_by clauses t.items (n / 2) other ∷ [] =
-    grown_from clauses t.items new.items c.clause-id.result (n / 2) other (to_z w32 (of_z w32 c.other-other.result)) c.level_of_rest-level.result c.lits-clause.result.now
-    other_is c.clause-id.ensures clause_is c.level_of_rest-level.ensures c.assign.ensures.items in
+    grown_from clauses t.items new.items c.clause-id.result (n / 2) other (to_z w32 (of_z w32 c.other-other.result)) c.true_level-level.result c.lits-clause.result.now
+    other_is c.clause-id.ensures clause_is c.true_level-level.ensures c.assign.ensures.items in
     let same : IsSameBut t new = record { variables = c.assign.ensures.variables; level = c.assign.ensures.level; seen = c.assign.ensures.seen } in
     let ready : IsReady clauses v new = ready_implied clauses v t n c.requires.ready c.requires.stands new here grown same in
     let on : is_true new.items other ≡ true = now_true clauses v t n c.requires.ready c.requires.stands new here grown same in
@@ -336,8 +352,8 @@ returns-then-highest-from-clause-steps c =
     let here : IsUnit t.items other (get_or clauses (n / 2) []) = unit clauses v t n c.requires.ready c.requires.stands (subst (λ z. is_true t.items z ≡ false) other_is (sym c.is_true.ensures ∙ c.if-is_true.false)) off rest in
     let new : TrailView = c.assign.new.self in
     let grown : new.items ≡ t.items ++ implied_by clauses t.items (n / 2) other ∷ [] =
-    grown_from clauses t.items new.items c.clause-id.result (n / 2) other (to_z w32 (of_z w32 c.other-other.result)) c.level_of_rest-level.result c.lits-clause.result.now
-    other_is c.clause-id.ensures clause_is c.level_of_rest-level.ensures c.assign.ensures.items in
+    grown_from clauses t.items new.items c.clause-id.result (n / 2) other (to_z w32 (of_z w32 c.other-other.result)) c.true_level-level.result c.lits-clause.result.now
+    other_is c.clause-id.ensures clause_is c.true_level-level.ensures c.assign.ensures.items in
     let same : IsSameBut t new = record { variables = c.assign.ensures.variables; level = c.assign.ensures.level; seen = c.assign.ensures.seen } in
     let ready : IsReady clauses v new = ready_implied clauses v t n c.requires.ready c.requires.stands new here grown same in
     let on : is_true new.items other ≡ true = now_true clauses v t n c.requires.ready c.requires.stands new here grown same in
@@ -362,8 +378,8 @@ returns-then-highest-from-clause-passed c =
     let here : IsUnit t.items other (get_or clauses (n / 2) []) = unit clauses v t n c.requires.ready c.requires.stands (subst (λ z. is_true t.items z ≡ false) other_is (sym c.is_true.ensures ∙ c.if-is_true.false)) off rest in
     let new : TrailView = c.assign.new.self in
     let grown : new.items ≡ t.items ++ implied_by clauses t.items (n / 2) other ∷ [] =
-    grown_from clauses t.items new.items c.clause-id.result (n / 2) other (to_z w32 (of_z w32 c.other-other.result)) c.level_of_rest-level.result c.lits-clause.result.now
-    other_is c.clause-id.ensures clause_is c.level_of_rest-level.ensures c.assign.ensures.items in
+    grown_from clauses t.items new.items c.clause-id.result (n / 2) other (to_z w32 (of_z w32 c.other-other.result)) c.true_level-level.result c.lits-clause.result.now
+    other_is c.clause-id.ensures clause_is c.true_level-level.ensures c.assign.ensures.items in
     let same : IsSameBut t new = record { variables = c.assign.ensures.variables; level = c.assign.ensures.level; seen = c.assign.ensures.seen } in
     let ready : IsReady clauses v new = ready_implied clauses v t n c.requires.ready c.requires.stands new here grown same in
     let on : is_true new.items other ≡ true = now_true clauses v t n c.requires.ready c.requires.stands new here grown same in
@@ -394,8 +410,8 @@ returns-else-highest-from-clause-passed c =
     let here : IsUnit t.items other (get_or clauses (n / 2) []) = unit clauses v t n c.requires.ready c.requires.stands (subst (λ z. is_true t.items z ≡ false) other_is (sym c.is_true.ensures ∙ c.if-is_true.false)) off rest in
     let new : TrailView = c.assign.new.self in
     let grown : new.items ≡ t.items ++ implied_by clauses t.items (n / 2) other ∷ [] =
-    grown_from clauses t.items new.items c.clause-id.result (n / 2) other (to_z w32 (of_z w32 c.other-other.result)) c.level_of_rest-level.result c.lits-clause.result.now
-    other_is c.clause-id.ensures clause_is c.level_of_rest-level.ensures c.assign.ensures.items in
+    grown_from clauses t.items new.items c.clause-id.result (n / 2) other (to_z w32 (of_z w32 c.other-other.result)) c.true_level-level.result c.lits-clause.result.now
+    other_is c.clause-id.ensures clause_is c.true_level-level.ensures c.assign.ensures.items in
     let same : IsSameBut t new = record { variables = c.assign.ensures.variables; level = c.assign.ensures.level; seen = c.assign.ensures.seen } in
     let ready : IsReady clauses v new = ready_implied clauses v t n c.requires.ready c.requires.stands new here grown same in
     let on : is_true new.items other ≡ true = now_true clauses v t n c.requires.ready c.requires.stands new here grown same in
@@ -420,8 +436,8 @@ returns-else-highest-from-clause-ready c =
     let here : IsUnit t.items other (get_or clauses (n / 2) []) = unit clauses v t n c.requires.ready c.requires.stands (subst (λ z. is_true t.items z ≡ false) other_is (sym c.is_true.ensures ∙ c.if-is_true.false)) off rest in
     let new : TrailView = c.assign.new.self in
     let grown : new.items ≡ t.items ++ implied_by clauses t.items (n / 2) other ∷ [] =
-    grown_from clauses t.items new.items c.clause-id.result (n / 2) other (to_z w32 (of_z w32 c.other-other.result)) c.level_of_rest-level.result c.lits-clause.result.now
-    other_is c.clause-id.ensures clause_is c.level_of_rest-level.ensures c.assign.ensures.items in
+    grown_from clauses t.items new.items c.clause-id.result (n / 2) other (to_z w32 (of_z w32 c.other-other.result)) c.true_level-level.result c.lits-clause.result.now
+    other_is c.clause-id.ensures clause_is c.true_level-level.ensures c.assign.ensures.items in
     let same : IsSameBut t new = record { variables = c.assign.ensures.variables; level = c.assign.ensures.level; seen = c.assign.ensures.seen } in
     let ready : IsReady clauses v new = ready_implied clauses v t n c.requires.ready c.requires.stands new here grown same in
     let on : is_true new.items other ≡ true = now_true clauses v t n c.requires.ready c.requires.stands new here grown same in
@@ -446,8 +462,8 @@ returns-else-highest-from-clause-steps c =
     let here : IsUnit t.items other (get_or clauses (n / 2) []) = unit clauses v t n c.requires.ready c.requires.stands (subst (λ z. is_true t.items z ≡ false) other_is (sym c.is_true.ensures ∙ c.if-is_true.false)) off rest in
     let new : TrailView = c.assign.new.self in
     let grown : new.items ≡ t.items ++ implied_by clauses t.items (n / 2) other ∷ [] =
-    grown_from clauses t.items new.items c.clause-id.result (n / 2) other (to_z w32 (of_z w32 c.other-other.result)) c.level_of_rest-level.result c.lits-clause.result.now
-    other_is c.clause-id.ensures clause_is c.level_of_rest-level.ensures c.assign.ensures.items in
+    grown_from clauses t.items new.items c.clause-id.result (n / 2) other (to_z w32 (of_z w32 c.other-other.result)) c.true_level-level.result c.lits-clause.result.now
+    other_is c.clause-id.ensures clause_is c.true_level-level.ensures c.assign.ensures.items in
     let same : IsSameBut t new = record { variables = c.assign.ensures.variables; level = c.assign.ensures.level; seen = c.assign.ensures.seen } in
     let ready : IsReady clauses v new = ready_implied clauses v t n c.requires.ready c.requires.stands new here grown same in
     let on : is_true new.items other ≡ true = now_true clauses v t n c.requires.ready c.requires.stands new here grown same in

@@ -1,7 +1,7 @@
 use Rattle.std.proofs.Common.{◌≡◌, ◌<◌, ◌≤◌, ℕ, length, ap, ◌∙◌, arith}
 use Rattle.std.proofs.lemmas.List.Elements.{All-same, All-weaker}
 use Rattle.projected_decide.specs.Orders.{order_of, place_in}
-use Rattle.projected_decide.proofs.Filling.{order_within, order_short}
+use Rattle.projected_decide.proofs.Filling.{order_within, order_named, order_short}
 use Rattle.projected_decide.proofs.order.Order.make.Goals as goal
 
 pub places_of-requires-clause-within : goal.places_of-requires-clause-within
@@ -29,5 +29,7 @@ invariant_of-result c =
       within = All-same (λ v. v < length c.in_ok-places.places.items) c.in_ok-order.order.items (order_of n c.args.shown.now) c.in_ok-order.ensures
           (All-weaker (λ v. v ≤ n) (λ v. v < length c.in_ok-places.places.items) (λ v h. omega arith) (order_of n c.args.shown.now)
           (order_within n c.args.shown.now c.requires.shown));
+      named = All-same (λ v. 0 < v) c.in_ok-order.order.items (order_of n c.args.shown.now) c.in_ok-order.ensures
+          (order_named n c.args.shown.now c.requires.shown);
       tells = λ v inside. c.in_ok-places.ensures.places v (omega arith) ∙ ap (place_in v) c.as_slice.ensures.value;
     }
