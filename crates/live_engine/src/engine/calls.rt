@@ -8,6 +8,7 @@ ghost use Rattle.sat_terms.specs.Subjects.{IsFormula, IsSubject};
 use super::Engine;
 use crate::Leaf;
 use crate::search::Phase;
+use chrono_trail::Kind;
 use prefix_jobs::Outcome;
 use sat_terms::{Clause, Cube, Formula, Items, Subject};
 use std::alloc::{AllocError, Global};
@@ -22,16 +23,17 @@ pub(crate) struct Example {
 }
 
 /// A call of an engine, and what it has to come to.
-#[derive(Clone, Copy, Debug)]
+#[derive(Clone, Copy)]
 pub(crate) enum Call<'a> {
     /// The job of a prefix starts.
     Start(&'a [i32]),
     /// The next leaf is this one.
     Leaf(Leaf),
-    /// There were so many leaves.
-    Leaves(u64),
-    /// These prefixes are untried, the last one being that of the search.
-    Open(&'a [&'a [i32]]),
+    /// So the job stands: these cubes are found, these prefixes open, the last of them being that
+    /// of the search, and there were so many leaves.
+    Stands(&'a [&'a [i32]], &'a [&'a [i32]], u64),
+    /// The newest literal on the trail, and whether it was flipped without a lemma for it.
+    Newest(i32, bool),
     /// These cubes and one prefix are given away, another prefix is kept, and so many leaves go.
     Give(&'a [&'a [i32]], &'a [i32], &'a [i32], u64),
     /// There is nothing to give.
@@ -157,28 +159,33 @@ pub(crate) fn play_with_lemmas(
     example: &Example,
     most_lemmas: u32,
     calls: &[Call<'_>],
-) -> Result<(), AllocError> {
-    let subject = subject_of(rt, alloc, example.variables, example.clauses, example.shown)?;
-    let mut engine = Engine::with_lemmas(alloc, &subject, most_lemmas)?;
-    play_all(rt, &mut engine, calls)
+) {
+    let engine = engine_of(rt, alloc, example, most_lemmas);
+    play_all(rt, &mut engine.expect(rt, "memory for the engine"), calls);
 }
 
 /// The same with ample room for lemmas.
-pub(crate) fn play(
+pub(crate) fn play(rt: &impl Abort, alloc: Global, example: &Example, calls: &[Call<'_>]) {
+    play_with_lemmas(rt, alloc, example, 1000, calls);
+}
+
+/// An engine of the example that keeps so many lemmas at most.
+fn engine_of(
     rt: &impl Abort,
     alloc: Global,
     example: &Example,
-    calls: &[Call<'_>],
-) -> Result<(), AllocError> {
-    play_with_lemmas(rt, alloc, example, 1000, calls)
+    most_lemmas: u32,
+) -> Result<Engine, AllocError> {
+    let subject = subject_of(rt, alloc, example.variables, example.clauses, example.shown)?;
+    Engine::with_lemmas(alloc, &subject, most_lemmas)
 }
 
 /// Makes these calls, one after another.
-fn play_all(rt: &impl Abort, engine: &mut Engine, calls: &[Call<'_>]) -> Result<(), AllocError> {
+fn play_all(rt: &impl Abort, engine: &mut Engine, calls: &[Call<'_>]) {
     for (place, call) in calls.iter().enumerate() {
-        assert!(rt; comes_true(rt, engine, *call)?, "call {place}: {call:?}");
+        let came = comes_true(rt, engine, *call).expect(rt, "memory for a call");
+        assert!(rt; came, "call {place}");
     }
-    Ok(())
 }
 
 /// Makes one call, and answers whether it came to what it has to.
@@ -186,8 +193,8 @@ fn comes_true(rt: &impl Abort, engine: &mut Engine, call: Call<'_>) -> Result<bo
     match call {
         Call::Start(prefix) => start(rt, engine, prefix),
         Call::Leaf(wanted) => Ok(leaf(rt, engine)? == wanted),
-        Call::Leaves(wanted) => Ok(engine.leaves() == wanted),
-        Call::Open(cubes) => opens(engine, cubes),
+        Call::Stands(cubes, open, leaves) => stands(engine, cubes, open, leaves),
+        Call::Newest(lit, flipped) => Ok(is_newest(engine, lit, flipped)),
         Call::Give(cubes, prefix, kept, leaves) => gives(rt, engine, cubes, prefix, kept, leaves),
         Call::GiveNothing => gives_nothing(rt, engine),
         Call::Expose(cubes, rest, leaves) => exposes(rt, engine, cubes, rest, leaves),
@@ -309,10 +316,28 @@ fn is_fresh(engine: &mut Engine, wanted: Option<&[i32]>) -> bool {
     }
 }
 
-/// Whether these prefixes are open: the untried ones, and then the one that the search is in.
-fn opens(engine: &Engine, wanted: &[&[i32]]) -> Result<bool, AllocError> {
-    let cubes = engine.search.left_of(engine.alloc, engine.phase)?;
-    Ok(are_cubes(&cubes, wanted))
+/// Whether these cubes are found, these prefixes open, first the untried ones and then the one that
+/// the search is in, and so many leaves counted.
+fn stands(
+    engine: &Engine,
+    cubes: &[&[i32]],
+    open: &[&[i32]],
+    leaves: u64,
+) -> Result<bool, AllocError> {
+    let left = engine.search.left_of(engine.alloc, engine.phase)?;
+    Ok(
+        are_cubes(&engine.search.found, cubes)
+            && are_cubes(&left, open)
+            && engine.leaves() == leaves,
+    )
+}
+
+/// Whether this is the newest literal on the trail, and was flipped without a lemma, or not.
+fn is_newest(engine: &Engine, lit: i32, flipped: bool) -> bool {
+    match engine.search.trail.items().last() {
+        Some(item) => item.lit == lit && (item.kind == Kind::Flipped) == flipped,
+        None => false,
+    }
 }
 
 /// How many lemmas have more literals than `keep`.

@@ -2,7 +2,6 @@
 use super::calls::{Call, Example, play, play_with_lemmas};
 use super::tests::NO_HIDDEN_VALUE;
 use crate::Leaf;
-use std::test::Fail;
 
 /// The hidden variable 5 has no value where 1 to 4 are false, and none where 3 and 4 are true.
 const TWO_GAPS: Example = Example {
@@ -21,8 +20,8 @@ const TWO_GAPS: Example = Example {
 const GAPS: [u32; 16] = [0, 1, 1, 1, 1, 1, 1, 1, 1, 1, 1, 1, 0, 0, 0, 0];
 
 #[test]
-fn a_lemma_is_fresh_once_and_in_its_job_alone(rt: HostRuntime) -> Result<(), Fail> {
-    let calls = [
+fn a_lemma_is_fresh_once_and_in_its_job_alone(rt: HostRuntime) {
+    const CALLS: &[Call<'static>] = &[
         Call::Fresh(None),
         Call::Start(&[]),
         Call::Leaf(Leaf::Dead),
@@ -36,13 +35,12 @@ fn a_lemma_is_fresh_once_and_in_its_job_alone(rt: HostRuntime) -> Result<(), Fai
         Call::Start(&[]),
         Call::Fresh(None),
     ];
-    play(&rt, rt.alloc(), &NO_HIDDEN_VALUE, &calls)?;
-    Ok(())
+    play(&rt, rt.alloc(), &NO_HIDDEN_VALUE, CALLS);
 }
 
 #[test]
-fn what_unit_propagation_refutes_is_imported(rt: HostRuntime) -> Result<(), Fail> {
-    let calls = [
+fn what_unit_propagation_refutes_is_imported(rt: HostRuntime) {
+    const CALLS: &[Call<'static>] = &[
         Call::Import(&[1], false),
         Call::Import(&[2, -2], true),
         Call::Longer(0, 0),
@@ -53,31 +51,33 @@ fn what_unit_propagation_refutes_is_imported(rt: HostRuntime) -> Result<(), Fail
         Call::Leaf(Leaf::Found),
         Call::Leaf(Leaf::Ended),
     ];
-    play(&rt, rt.alloc(), &NO_HIDDEN_VALUE, &calls)?;
-    Ok(())
+    play(&rt, rt.alloc(), &NO_HIDDEN_VALUE, CALLS);
 }
 
 #[test]
-fn an_imported_lemma_helps_to_refute_the_next(rt: HostRuntime) -> Result<(), Fail> {
-    let example = Example {
+fn an_imported_lemma_helps_to_refute_the_next(rt: HostRuntime) {
+    const EXAMPLE: Example = Example {
         variables: 3,
         clauses: &[&[1, 2, 3], &[1, 2, -3], &[1, -2, 3], &[1, -2, -3]],
         shown: &[1, 2, 3],
     };
-    let calls = [
+    const CALLS: &[Call<'static>] = &[
         Call::Import(&[1], false),
-        Call::Import(&[1, 2, 1], true),
-        Call::Longer(2, 0),
+        Call::Longer(0, 0),
+        Call::Import(&[1, 2], true),
         Call::Import(&[1], true),
-        Call::Longer(0, 2),
+        Call::Import(&[1, -2, 1], true),
+        Call::Longer(0, 3),
+        Call::Longer(1, 2),
+        Call::Longer(2, 0),
+        Call::List(&[], &[&[1]]),
     ];
-    play(&rt, rt.alloc(), &example, &calls)?;
-    Ok(())
+    play(&rt, rt.alloc(), &EXAMPLE, CALLS);
 }
 
 #[test]
-fn long_lemmas_are_dropped_and_the_short_ones_kept(rt: HostRuntime) -> Result<(), Fail> {
-    let calls = [
+fn long_lemmas_are_dropped_and_the_short_ones_kept(rt: HostRuntime) {
+    const CALLS: &[Call<'static>] = &[
         Call::Count(GAPS),
         Call::Longer(0, 2),
         Call::Longer(2, 1),
@@ -89,15 +89,13 @@ fn long_lemmas_are_dropped_and_the_short_ones_kept(rt: HostRuntime) -> Result<()
         Call::Longer(0, 0),
         Call::Count(GAPS),
     ];
-    play(&rt, rt.alloc(), &TWO_GAPS, &calls)?;
-    Ok(())
+    play(&rt, rt.alloc(), &TWO_GAPS, CALLS);
 }
 
 #[test]
-fn no_more_lemmas_are_learnt_than_there_is_room_for(rt: HostRuntime) -> Result<(), Fail> {
+fn no_more_lemmas_are_learnt_than_there_is_room_for(rt: HostRuntime) {
     for most in 0..4u32 {
         let calls = [Call::Count(GAPS), Call::Longer(0, most.min(2))];
-        play_with_lemmas(&rt, rt.alloc(), &TWO_GAPS, most, &calls)?;
+        play_with_lemmas(&rt, rt.alloc(), &TWO_GAPS, most, &calls);
     }
-    Ok(())
 }

@@ -25,43 +25,43 @@ loop-variable-preserved c =
     let i : ℕ = c.loop-variable.variable-index in
     let trail = pictured_trail s in
     let before = read_cube (upto c.args.level) trail (take i shown) in
-    let lits = c.loop-variable.spare.items in
+    let before_lits = c.loop-variable.lits.items in
     let distinct = steady_distinct (search_formula s) s.arena.clauses (is_among shown) items c.requires.searching.working.running.steady in
     let more = cube_more (upto c.args.level) trail shown i 0 (subst (λ p. i < length p) c.as_slice-variable-items.ensures.value c.loop-variable-test.true)
     ∙ ap (λ (o : Option ℤ). before ++ option_to_list o) (picked_item s.arena.clauses c.args.level items (get_or shown i 0) distinct) in
     let looked = c.item.ensures ∙ ap (λ p. item_of items (get_or p i 0)) c.as_slice-variable-items.ensures.value in
     let few = c.loop-variable.invariant.few in
-    let same : (new : Vec ℤ Global) → c.match-item.spare ≡ new → (o : Option ℤ) → literal_upto c.args.level c.item.result ≡ o → new.items ≡ lits ++ option_to_list o → c.match-item.spare.items ≡ read_cube (upto c.args.level) trail (take (i + 1) shown)
+    let same : (new : Vec ℤ Global) → c.match-item.lits ≡ new → (o : Option ℤ) → literal_upto c.args.level c.item.result ≡ o → new.items ≡ before_lits ++ option_to_list o → c.match-item.lits.items ≡ read_cube (upto c.args.level) trail (take (i + 1) shown)
     = λ new is o e grown. ap (λ (x : Vec ℤ Global). x.items) is ∙ grown ∙ ap (λ xs. xs ++ option_to_list o) c.loop-variable.invariant.cube
     ∙ sym (more ∙ ap (λ (x : Option ℤ). before ++ option_to_list x) (ap (literal_upto c.args.level) (sym looked) ∙ e)) in
     elim c.match-item.branch [
       | in-Some+then-item-level w ↦
           let fits : SFits w32 w.in-Some.item.lit = search rules in
-          let grown = w.push_reserved.ensures.items ∙ ap (λ (z : ℤ). lits ++ z ∷ []) (to_z-of_z w32 w.in-Some.item.lit fits) in
-          let long = ap length grown ∙ length-append lits (w.in-Some.item.lit ∷ []) in
+          let grown = w.push_reserved.ensures.items ∙ ap (λ (z : ℤ). before_lits ++ z ∷ []) (to_z-of_z w32 w.in-Some.item.lit fits) in
+          let long = ap length grown ∙ length-append before_lits (w.in-Some.item.lit ∷ []) in
           record {
-            cube = same w.push_reserved.new.self w.spare-is (Some w.in-Some.item.lit)
+            cube = same w.push_reserved.new.self w.lits-is (Some w.in-Some.item.lit)
                 (ap (literal_upto c.args.level) w.in-Some.is ∙ ap (λ b. cond b (Some w.in-Some.item.lit) None) (le-leb w.in-Some.item.level c.args.level w.if-item-level.true))
                 grown;
-            room = ap vec_capacity w.spare-is ∙ w.push_reserved.ensures.capacity ∙ c.loop-variable.invariant.room;
-            few = rw w.spare-is (omega arith);
+            room = subst (λ n. length shown ≤ n) (sym (ap vec_capacity w.lits-is ∙ w.push_reserved.ensures.capacity)) c.loop-variable.invariant.room;
+            few = rw w.lits-is (omega arith);
           }
       | in-Some+else-item-level w ↦ record {
-        cube = same c.loop-variable.spare w.spare-is None
+        cube = same c.loop-variable.lits w.lits-is None
             (ap (literal_upto c.args.level) w.in-Some.is ∙ ap (λ b. cond b (Some w.in-Some.item.lit) None) (lt-leb w.in-Some.item.level c.args.level w.if-item-level.false))
-            (sym (append-nil lits));
-        room = ap vec_capacity w.spare-is ∙ c.loop-variable.invariant.room;
-        few = rw w.spare-is (omega arith);
+            (sym (append-nil before_lits));
+        room = subst (λ n. length shown ≤ n) (sym (ap vec_capacity w.lits-is)) c.loop-variable.invariant.room;
+        few = rw w.lits-is (omega arith);
       }
       | in_default w ↦ record {
-        cube = same c.loop-variable.spare w.spare-is None (ap (literal_upto c.args.level) w.in_default.is) (sym (append-nil lits));
-        room = ap vec_capacity w.spare-is ∙ c.loop-variable.invariant.room;
-        few = rw w.spare-is (omega arith);
+        cube = same c.loop-variable.lits w.lits-is None (ap (literal_upto c.args.level) w.in_default.is) (sym (append-nil before_lits));
+        room = subst (λ n. length shown ≤ n) (sym (ap vec_capacity w.lits-is)) c.loop-variable.invariant.room;
+        few = rw w.lits-is (omega arith);
       }
     ]
 
-module _ (c : goal.After-loop-variable) where
-  whole : c.loop-variable.spare.items ≡ read_cube (upto c.args.level) (pictured_trail c.args.self.now) c.args.self.now.shown.items
+module _ (c : goal.After-drop-spare) where
+  whole : c.loop-variable.lits.items ≡ read_cube (upto c.args.level) (pictured_trail c.args.self.now) c.args.self.now.shown.items
   whole = c.loop-variable.invariant.cube
       ∙ ap (read_cube (upto c.args.level) (pictured_trail c.args.self.now)) (take_all c.loop-variable.variable-index c.args.self.now.shown.items
       (subst (λ p. length p ≤ c.loop-variable.variable-index) c.as_slice-variable-items.ensures.value c.loop-variable-test.false))
@@ -83,3 +83,13 @@ returns-clause-literals c =
     let few = c.requires.searching.ground.small in
     subst (All IsLiteral) (sym (whole c)) (read_cube_literals (upto c.args.level) (pictured_trail s) s.shown.items
     (All-weaker (λ v. (0 < v) × (v ≤ s.variables)) (λ v. (0 < v) × (v < 2 ^ 31)) (λ v k. let low = k.1 in (k.0, omega arith)) s.shown.items shown.named))
+
+pub loop-variable-init : goal.loop-variable-init
+loop-variable-init c =
+    let taken = c.replace-lits.ensures.value in
+    let none : c.replace-lits.result.items ≡ [] = ap (λ (v : Vec ℤ Global). v.items) taken ∙ c.requires.empty in
+    record {
+      cube = none;
+      room = subst (λ v. length c.args.self.now.shown.items ≤ vec_capacity v) (sym taken) c.requires.room;
+      few = rw none (omega arith);
+    }

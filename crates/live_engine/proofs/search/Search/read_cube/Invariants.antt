@@ -6,7 +6,7 @@ use Rattle.live_engine.proofs.search.Search.read_cube.Given as goal
 
 abbrev pub invariant-loop-variable : goal.invariant-loop-variable
 invariant-loop-variable l = record {
-  cube : l.spare.items ≡ read_cube (upto l.level) (pictured_trail l.self) (take l.variable-index l.self.shown.items);
-  room : vec_capacity l.spare ≡ vec_capacity l.initial.spare;
-  few : length l.spare.items ≤ l.variable-index;
+  cube : l.lits.items ≡ read_cube (upto l.level) (pictured_trail l.self) (take l.variable-index l.self.shown.items);
+  room : length l.self.shown.items ≤ vec_capacity l.lits;
+  few : length l.lits.items ≤ l.variable-index;
 }
