@@ -1,1 +1,2 @@
+mod CubeLineParts
 mod SavedLines

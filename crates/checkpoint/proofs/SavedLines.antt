@@ -9,7 +9,7 @@ use Rattle.dimacs_tokens.specs.Texts.{ended, text_of}
 use Rattle.cube_text.specs.Buffered.{BufferedView, Wrote}
 use Rattle.cube_text.specs.Lines.{number_word, zero_ended}
 use Rattle.cube_text.proofs.Handing.{Hands}
-use Rattle.checkpoint.specs.SavedText.{version_line, clause_line, formula_line, shown_line, given_line, found_line, open_line, closing_line, subject_lines, saved_text}
+use Rattle.checkpoint.specs.SavedText.{clause_line, formula_line, shown_line, given_line, found_line, open_line, closing_line, subject_lines, saved_text}
 
 -- nothing is handed in
 pub Hands-nil : (old : SinkView) (b : BufferedView) → Hands old b old b []

@@ -1,2 +1,3 @@
 -- The text of a stopped run.
+pub mod CubeLines
 pub mod SavedText

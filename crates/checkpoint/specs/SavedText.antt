@@ -4,7 +4,8 @@ use Rattle.std.specs.Fmt.{decimal}
 use Rattle.sat_terms.specs.declared.subject.Formula.{Formula}
 use Rattle.sat_terms.specs.declared.subject.Subject.{Subject}
 use Rattle.dimacs_tokens.specs.Texts.{text_of}
-use Rattle.cube_text.specs.Lines.{zero_ended}
+-- its lists are written as in a listing
+pub use Rattle.cube_text.specs.Lines.{number_word, zero_ended}
 
 -- the line that says which form the text has
 abbrev pub version_line : List ℕ

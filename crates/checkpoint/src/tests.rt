@@ -90,8 +90,8 @@ fn half_done(alloc: Global) -> Result<Stopped, AllocError> {
     })
 }
 
-/// Three variables, an empty clause, and a clause with a literal twice and a pair. Under `-2 3` the
-/// empty prefix is pending, and no cube is found.
+/// Three variables, an empty clause, and a clause with a literal twice and a pair. Under `-2 3`
+/// just this prefix is pending, and no cube is found.
 fn not_begun(alloc: Global) -> Result<Stopped, AllocError> {
     let clauses = two_clauses(alloc, &[], &[1, 1, -1])?;
     let formula = Formula {
@@ -100,7 +100,7 @@ fn not_begun(alloc: Global) -> Result<Stopped, AllocError> {
     };
     let shown = Items::from_vec([2u32, 3].to_vec(alloc)?);
     let under = Cube::from_vec([-2, 3].to_vec(alloc)?);
-    let pending = one_cube(alloc, &[])?;
+    let pending = one_cube(alloc, &[-2, 3])?;
     let subject = Subject {
         formula,
         shown,
@@ -119,7 +119,7 @@ const HALF_DONE: &str = "c allsat saved 2\np cnf 2 2\n1 2 0\n-1 -2 0\nc p show 1
     c p under 0\nc p cube -1 2 0\nc p open 1 0\nc p end\n";
 
 const NOT_BEGUN: &str = "c allsat saved 2\np cnf 3 2\n0\n1 1 -1 0\nc p show 2 3 0\n\
-    c p under -2 3 0\nc p open 0\nc p end\n";
+    c p under -2 3 0\nc p open -2 3 0\nc p end\n";
 
 #[test]
 fn a_saved_text_has_a_line_for_each_clause_cube_and_prefix(rt: HostRuntime) -> Result<(), Fail> {
@@ -148,5 +148,40 @@ fn a_fault_leaves_a_front_of_the_saved_text(rt: HostRuntime) -> Result<(), Fail>
     let mut sink = BytesOut::make(alloc, 256, 16, [3].to_vec(alloc)?)?;
     assert_eq!(rt; write_saved(&mut stopped, &mut sink), Err(WriteFault));
     assert_eq!(rt; sink.bytes(), &HALF_DONE.as_bytes()[..32]);
+    Ok(())
+}
+
+/// The literals of a cube line with these numbers, or `None` where it is bad.
+fn cube_of(alloc: Global, numbers: &[i32]) -> Result<Option<Vec<i32>>, AllocError> {
+    match read_cube_line(alloc, numbers) {
+        Ok(lits) => Ok(Some(lits)),
+        Err(CubeLineRefused::Bad) => Ok(None),
+        Err(CubeLineRefused::OutOfMemory(error)) => Err(error),
+    }
+}
+
+#[test]
+fn a_cube_line_is_rising_literals_and_one_zero(rt: HostRuntime) -> Result<(), Fail> {
+    let alloc = rt.alloc();
+    let cube = cube_of(alloc, &[1, -2, 0])?;
+    assert_eq!(rt;
+        cube.unwrap_or(Vec::new(alloc)).as_slice(),
+        [1, -2].as_slice()
+    );
+    assert_eq!(rt; cube_of(alloc, &[0])?.unwrap_or(Vec::new(alloc)).len(), 0);
+    let bad: [&[i32]; 9] = [
+        &[],
+        &[1],
+        &[0, 0],
+        &[2, 1, 0],
+        &[1, -1, 0],
+        &[1, 0, 2],
+        &[1, 0, 2, 0],
+        &[1, 0, 0],
+        &[i32::MIN, 0],
+    ];
+    for numbers in bad {
+        assert_eq!(rt; cube_of(alloc, numbers)?.is_none(), true);
+    }
     Ok(())
 }

@@ -12,7 +12,7 @@ use std::marker::Model;
 const KEPT_LITERALS: usize = 256;
 
 /// The most bytes of the text that is kept.
-const KEPT_BYTES: usize = 3072;
+const KEPT_TEXT: usize = 3072;
 
 /// How many literals two lists both begin with. The time is that of these.
 pub fn shared_front(c: &[i32], d: &[i32]) -> usize
@@ -34,7 +34,7 @@ pub fn shared_front(c: &[i32], d: &[i32]) -> usize
 /// The text of the first literals of a cube's line, with the place where each one's word ends.
 #[derive(Drop)]
 pub struct LineFront {
-    text: ArrayVec<u8, KEPT_BYTES>,
+    text: ArrayVec<u8, KEPT_TEXT>,
     ends: ArrayVec<usize, KEPT_LITERALS>,
 }
 

@@ -7,16 +7,16 @@ use Rattle.std.proofs.lemmas.List.Sums.{fold-append}
 use Rattle.dimacs_tokens.specs.Numbers.{token_value}
 use Rattle.dimacs_tokens.specs.Seen.{seen_token, begins_with, is_nil}
 use Rattle.dimacs_tokens.proofs.NumberLaws.{words_by_head}
-use Rattle.dimacs_front.specs.declared.under.Given.{Given}
+use Rattle.dimacs_front.specs.declared.under_lines.Given.{Given}
 use Rattle.dimacs_front.specs.declared.refused.TextRefused.{TextRefused}
 use Rattle.dimacs_front.specs.declared.refused.TextRefused.TheVariants.{SavedBad, NotBuilt}
 use Rattle.dimacs_front.specs.declared.line_place.LinePlace.{LinePlace}
-use Rattle.dimacs_front.specs.declared.comment_line.CommentPlace.{CommentPlace}
-use Rattle.dimacs_front.specs.declared.comment_line.CommentPlace.TheVariants as comment
+use Rattle.dimacs_front.specs.declared.comment_place.CommentPlace.{CommentPlace}
+use Rattle.dimacs_front.specs.declared.comment_place.CommentPlace.TheVariants as comment
 use Rattle.dimacs_front.specs.declared.line_place.LinePlace.TheVariants.{Beginning, Comment, Show, Under, Saved, Refused}
 use Rattle.dimacs_front.specs.declared.saved_lines.SavedList.TheVariants.{Cubes, Pending}
-use Rattle.dimacs_front.specs.declared.saved_line.SavedPlace.{SavedPlace}
-use Rattle.dimacs_front.specs.declared.saved_line.SavedPlace.TheVariants.{Listed, End}
+use Rattle.dimacs_front.specs.declared.saved_place.SavedPlace.{SavedPlace}
+use Rattle.dimacs_front.specs.declared.saved_place.SavedPlace.TheVariants.{Listed, End}
 use Rattle.dimacs_front.specs.MachinePlaces.{in_comment}
 use Rattle.dimacs_front.specs.Steps.{and_then, needs}
 use Rattle.dimacs_front.specs.HeaderLines.{Below}

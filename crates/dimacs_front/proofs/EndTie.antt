@@ -5,10 +5,10 @@ use Rattle.std.specs.List.{list_any, filter, range_with_len}
 use Rattle.std.proofs.lemmas.Bool.{eqb-true}
 use Rattle.std.proofs.Math.Bool.{or-false, or_assoc}
 use Rattle.dimacs_tokens.specs.Seen.{is_nil}
-use Rattle.dimacs_front.specs.declared.under.Given.{Given}
+use Rattle.dimacs_front.specs.declared.under_lines.Given.{Given}
 use Rattle.dimacs_front.specs.declared.refused.TextRefused.{TextRefused}
 use Rattle.dimacs_front.specs.declared.refused.TextRefused.TheVariants.{Unfinished, ClauseCount, ShowBad, TooManyShown, UnderBad, SavedBad, SavedUnended}
-use Rattle.dimacs_front.specs.declared.shown.Named.{Named}
+use Rattle.dimacs_front.specs.declared.show_lines.Named.{Named}
 use Rattle.dimacs_front.specs.declared.input.Input.{Input}
 use Rattle.dimacs_front.specs.Limits.{most_shown}
 use Rattle.dimacs_front.specs.Steps.{needs, unless}

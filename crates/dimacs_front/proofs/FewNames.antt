@@ -8,7 +8,7 @@ use Rattle.std.proofs.lemmas.List.{map-append, length-map}
 use Rattle.std.proofs.lemmas.List.Folds.{list_any-append}
 use Rattle.std.proofs.lemmas.Map.Keys.{IsDistinct-push}
 use Rattle.std.proofs.lemmas.Map.Steps.{length-le_from_distinct_below}
-use Rattle.dimacs_front.specs.declared.shown.Named.{Named}
+use Rattle.dimacs_front.specs.declared.show_lines.Named.{Named}
 use Rattle.dimacs_front.specs.Limits.{most_variables}
 use Rattle.dimacs_front.specs.Machine.{is_named, name_once}
 

@@ -1,15 +1,15 @@
 -- The header says to the machine what it says.
-use Rattle.std.proofs.Common.{◌≡◌, ℕ, Bool, true, false, cond, ◌&&◌, leb, List, [], ◌∷◌, fold, Option, Some, None, Ok, Err, refl, ap, ◌∙◌, lit<}
+use Rattle.std.proofs.Common.{◌≡◌, ℕ, Bool, true, false, cond, ◌&&◌, leb, List, [], ◌∷◌, fold, Option, Some, None, Err, refl, ap, ◌∙◌, lit<}
 use Rattle.std.specs.Prelude.{codes}
 use Rattle.std.specs.Str.{bytes_eq}
 use Rattle.std.proofs.lemmas.List.Folds.{fold_stays}
 use Rattle.dimacs_tokens.specs.Numbers.{value_of, token_value}
-use Rattle.dimacs_tokens.specs.Seen.{SeenView, seen_token}
+use Rattle.dimacs_tokens.specs.Seen.{seen_token}
 use Rattle.dimacs_tokens.proofs.NumberLaws.{words_by_head}
-use Rattle.dimacs_front.specs.declared.under.Given.{Given}
+use Rattle.dimacs_front.specs.declared.under_lines.Given.{Given}
 use Rattle.dimacs_front.specs.declared.refused.TextRefused.TheVariants.{BadHeader}
-use Rattle.dimacs_front.specs.declared.header_line.HeaderPlace.{HeaderPlace}
-use Rattle.dimacs_front.specs.declared.header_line.HeaderPlace.TheVariants.{Word, Variables, Clauses, End, Broken}
+use Rattle.dimacs_front.specs.declared.header_place.HeaderPlace.{HeaderPlace}
+use Rattle.dimacs_front.specs.declared.header_place.HeaderPlace.TheVariants.{Word, Variables, Clauses, End, Broken}
 use Rattle.dimacs_front.specs.declared.line_place.LinePlace.TheVariants.{Beginning, Header}
 use Rattle.dimacs_front.specs.Limits.{most_variables, most_clauses}
 use Rattle.dimacs_front.specs.Steps.{needs}

@@ -1,6 +1,5 @@
 -- The laws of lines of numbers, of show lines and of texts.
-use Rattle.std.proofs.Common.{◌≡◌, ℕ, ◌<◌, ◌≤◌, Bool, true, false, not, cond, eqb, append-nil, List, [], ◌∷◌, ◌++◌, length, map, ℤ, pos, nat_abs, Option, Some, None, Result, Ok, Err, refl, sym, subst, ap, ◌∙◌, arith}
-use Rattle.std.specs.Prelude.{nat_lt}
+use Rattle.std.proofs.Common.{◌≡◌, ℕ, ◌+◌, ◌<◌, ◌≤◌, Bool, true, false, not, cond, eqb, append-nil, List, [], ◌∷◌, ◌++◌, length, map, ℤ, pos, nat_abs, Option, Some, None, Result, Ok, Err, refl, sym, subst, ap, ◌∙◌, arith}
 use Rattle.std.specs.List.{All}
 use Rattle.std.proofs.lemmas.Bool.{cond-true, cond-false, eqb-true, le-leb, lt-ltb}
 use Rattle.std.proofs.lemmas.Bool.Decides.{nat_tests}
@@ -9,9 +8,9 @@ use Rattle.std.proofs.lemmas.List.Elements.{All-head, All-tail}
 use Rattle.std.proofs.lemmas.List.Sums.{sum_by-append}
 use Rattle.dimacs_tokens.specs.Numbers.{numeral, digits_say, token_value}
 use Rattle.dimacs_tokens.specs.Seen.{list_begins, is_nil}
-use Rattle.dimacs_front.specs.declared.under.Given.{Given}
+use Rattle.dimacs_front.specs.declared.under_lines.Given.{Given}
 use Rattle.dimacs_front.specs.declared.refused.TextRefused.{TextRefused}
-use Rattle.dimacs_front.specs.declared.refused.TextRefused.TheVariants.{ShowBad, ShowUnended, VariableTooLarge, TooManyClauses, TooManyLiterals, HeaderTwice}
+use Rattle.dimacs_front.specs.declared.refused.TextRefused.TheVariants.{ShowBad, ShowUnended, HeaderTwice}
 use Rattle.dimacs_front.specs.Limits.{most_variables, most_clauses, most_literals}
 use Rattle.dimacs_front.specs.Steps.{and_then, needs, steps}
 use Rattle.dimacs_front.specs.HeaderLines.{Below}
@@ -19,7 +18,7 @@ use Rattle.dimacs_front.specs.NumberLines.{literals_of, clause_ended, literal_ad
 use Rattle.dimacs_front.specs.ListLines.{ListLine, list_says, is_variable, show_says}
 use Rattle.dimacs_front.specs.SavedTexts.{SavedSaid}
 use Rattle.dimacs_front.specs.TextLines.{Said, with_below, with_show, line_says, no_line, next_line, lines_say}
-use Rattle.dimacs_front.specs.TextLaws.{number_written, numbers_written, HasRoom, ALineOfNumbersSaysThese, TheFirstRefusedNumberCounts, IsVariable, variables, AShowLineShowsItsVariables, is_foreign, ShowLinesAreRefused, ALineWithoutTokensChangesNothing, TheFormulaEndsAtAPercent, TheLowestRefusedLineCounts}
+use Rattle.dimacs_front.specs.TextLaws.{zeros_in, literals_in, number_written, numbers_written, HasRoom, ALineOfNumbersSaysThese, TheFirstRefusedNumberCounts, IsVariable, variables, AShowLineShowsItsVariables, is_foreign, ShowLinesAreRefused, ALineWithoutTokensChangesNothing, TheFormulaEndsAtAPercent, TheLowestRefusedLineCounts}
 
 -- ---- steps
 
@@ -77,34 +76,35 @@ begins_not b none (c ∷ cs) l h = at (eqb c b) refl
         absurd (cc)
     at false e = e
 
-abbrev says : Below → Result Below TextRefused
-says w = Ok w
+-- one number, a 0 or a literal, where there is room for it and those behind it
+abbrev fits_clauses : Below → List ℤ → Bool → Type 0
+fits_clauses w ls z = length w.clauses + cond z (zeros_in ls + 1) (zeros_in ls) ≤ most_clauses
 
-both_ok : (b : Bool) (v w : Below) → cond b (says v) (says w) ≡ says (cond b v w)
-both_ok true v w = refl
-both_ok false v w = refl
+abbrev fits_literals : Below → List ℤ → Bool → Type 0
+fits_literals w ls z = literals_of w + cond z (literals_in ls) (literals_in ls + 1) ≤ most_literals
 
-number_fits : (n : ℕ) (w : Below) (l : ℤ) → nat_abs l ≤ w.variables →
-    length w.clauses < most_clauses → literals_of w < most_literals →
-    number_says n w (Some l) ≡ Ok (number_written w l)
-number_fits n w l small clauses literals =
-    (λ i. cond (eqb (nat_abs l) 0) (cond-true _ (Ok (clause_ended w)) (Err (TooManyClauses n)) (lt-ltb (length w.clauses) most_clauses clauses) i) ((cond-true _ (needs (nat_lt (literals_of w) most_literals) (TooManyLiterals n) (Ok (literal_added w l))) (Err (VariableTooLarge n)) (le-leb (nat_abs l) w.variables small) ∙ cond-true _ (Ok (literal_added w l)) (Err (TooManyLiterals n)) (lt-ltb (literals_of w) most_literals literals)) i))
-    ∙ both_ok (eqb (nat_abs l) 0) (clause_ended w) (literal_added w l)
+number_fits : (n : ℕ) (w : Below) (l : ℤ) (ls : List ℤ) (z : Bool) → eqb (nat_abs l) 0 ≡ z → nat_abs l ≤ w.variables →
+    fits_clauses w ls z → fits_literals w ls z →
+    number_says n w (Some l) ≡ Ok (cond z (clause_ended w) (literal_added w l))
+number_fits n w l ls true e small clauses literals =
+    cond-true _ _ _ e ∙ cond-true _ _ _ (lt-ltb (length w.clauses) most_clauses (omega arith))
+number_fits n w l ls false e small clauses literals =
+    cond-false _ _ _ e
+    ∙ cond-true _ _ _ (le-leb (nat_abs l) w.variables small)
+    ∙ cond-true _ _ _ (lt-ltb (literals_of w) most_literals (omega arith))
 
-room_more : (w : Below) (l : ℤ) (ls : List ℤ) → HasRoom w (l ∷ ls) → HasRoom (number_written w l) ls
-room_more w l ls r = at (eqb (nat_abs l) 0)
-  where
-    at : (m : Bool) → HasRoom (cond m (clause_ended w) (literal_added w l)) ls
-    at true = record {
-      named = All-tail (λ k. nat_abs k ≤ w.variables) l ls r.named;
-      clauses = let long = length_push w.clauses w.open_clause in let before = r.clauses in omega arith;
-      literals = let same = sum_by-append length w.clauses (w.open_clause ∷ []) in let before = r.literals in omega arith;
-    }
-    at false = record {
-      named = All-tail (λ k. nat_abs k ≤ w.variables) l ls r.named;
-      clauses = let before = r.clauses in omega arith;
-      literals = let long = length_push w.open_clause l in let before = r.literals in omega arith;
-    }
+room_more : (w : Below) (l : ℤ) (ls : List ℤ) (z : Bool) → All (λ k. nat_abs k ≤ w.variables) ls →
+    fits_clauses w ls z → fits_literals w ls z → HasRoom (cond z (clause_ended w) (literal_added w l)) ls
+room_more w l ls true named clauses literals = record {
+  named = named;
+  clauses = let long = length_push w.clauses w.open_clause in omega arith;
+  literals = let same = sum_by-append length w.clauses (w.open_clause ∷ []) in omega arith;
+}
+room_more w l ls false named clauses literals = record {
+  named = named;
+  clauses = omega arith;
+  literals = let long = length_push w.open_clause l in omega arith;
+}
 
 numbers_fit : (n : ℕ) (w : Below) (os : List (Option ℤ)) (ls : List ℤ) →
     os ≡ map (λ l. Some l) ls → HasRoom w ls → numbers_say n w os ≡ Ok (numbers_written w ls)
@@ -114,8 +114,23 @@ numbers_fit n w (o ∷ os) [] e r = absurd (cc)
 numbers_fit n w (o ∷ os) (l ∷ ls) e r =
     let first : o ≡ Some l = cc in
     let rest : os ≡ map (λ k. Some k) ls = cc in
-    ap (and_then (λ v. numbers_say n v os)) (ap (number_says n w) first ∙ number_fits n w l (All-head (λ k. nat_abs k ≤ w.variables) l ls r.named) (let room = r.clauses in omega arith) (let room = r.literals in omega arith))
-    ∙ numbers_fit n (number_written w l) os ls rest (room_more w l ls r)
+    ap (and_then (λ v. numbers_say n v os))
+    (ap (number_says n w) first
+    ∙ number_fits n w l ls (eqb (nat_abs l) 0) refl (All-head (λ k. nat_abs k ≤ w.variables) l ls r.named) r.clauses r.literals)
+    ∙ numbers_fit n (number_written w l) os ls rest
+    (room_more w l ls (eqb (nat_abs l) 0) (All-tail (λ k. nat_abs k ≤ w.variables) l ls r.named) r.clauses r.literals)
+
+-- a line whose first token is a number is one of numbers
+pub numbers_line : (n : ℕ) (w v : Below) (ms : List ListLine) (gs : List Given) (k : SavedSaid) (t : List ℕ) (ts : List (List ℕ)) (l : ℤ) →
+    token_value t ≡ Some l → numbers_say n w (map token_value (t ∷ ts)) ≡ Ok v →
+    line_says n (record { below = Some w; shows = ms; given = gs; saved = k; over = false }) (t ∷ ts) ≡
+    Ok (record { below = Some v; shows = ms; given = gs; saved = k; over = false })
+unfolding line_says
+numbers_line n w v ms gs k t ts l first e =
+    let s : Said = record { below = Some w; shows = ms; given = gs; saved = k; over = false } in
+    cond-false _ _ _ (begins_not 99 no_c t l first)
+    ∙ (λ i. needs (not (begins_not 112 no_p t l first i)) (HeaderTwice n) (cond (begins_not 37 no_percent t l first i) (Ok (record s { over = true })) (and_then (λ v. Ok (with_below s v)) (numbers_say n w (map token_value (t ∷ ts))))))
+    ∙ ap (and_then (λ v. Ok (with_below s v))) e
 
 pub number_line : ALineOfNumbersSaysThese
 unfolding line_says
@@ -123,11 +138,9 @@ number_line n w ms gs k [] [] e r = refl
 number_line n w ms gs k [] (l ∷ ls) e r = absurd (cc)
 number_line n w ms gs k (t ∷ ts) [] e r = absurd (cc)
 number_line n w ms gs k (t ∷ ts) (l ∷ ls) e r =
-    let s : Said = record { below = Some w; shows = ms; given = gs; saved = k; over = false } in
     let first : token_value t ≡ Some l = cc in
-    cond-false _ _ _ (begins_not 99 no_c t l first)
-    ∙ (λ i. needs (not (begins_not 112 no_p t l first i)) (HeaderTwice n) (cond (begins_not 37 no_percent t l first i) (Ok (record s { over = true })) (and_then (λ v. Ok (with_below s v)) (numbers_say n w (map token_value (t ∷ ts))))))
-    ∙ ap (and_then (λ v. Ok (with_below s v))) (numbers_fit n w (map token_value (t ∷ ts)) (l ∷ ls) e r)
+    numbers_line n w (numbers_written w (l ∷ ls)) ms gs k t ts l first
+    (numbers_fit n w (map token_value (t ∷ ts)) (l ∷ ls) e r)
 
 -- ---- show lines
 

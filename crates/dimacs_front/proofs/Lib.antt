@@ -1,4 +1,5 @@
 pub mod CommentTie
+pub mod EndRefusals
 pub mod EndTie
 pub mod FewNames
 pub mod HeaderTie
@@ -10,6 +11,9 @@ pub mod Names
 pub mod NumberTie
 pub mod PassedLines
 pub mod ReadingOn
+pub mod RefusalSteps
+pub mod SavedBack
+pub mod SavedEnd
 pub mod SavedInside
 pub mod SavedSteps
 pub mod SavedTie
@@ -23,3 +27,5 @@ pub mod Ties
 pub mod UnderCube
 pub mod UnderSteps
 pub mod UnderTie
+pub mod WrittenLines
+pub mod WrittenTokens

@@ -1,14 +1,11 @@
 -- Any line says to the machine what it says.
-use Rattle.std.proofs.Common.{◌≡◌, ℕ, Bool, true, false, not, cond, ◌&&◌, leb, List, [], ◌∷◌, map, ℤ, Option, Some, None, Ok, refl, subst, ap, ◌∙◌}
-use Rattle.std.specs.Prelude.{codes}
-use Rattle.std.specs.Str.{bytes_eq}
+use Rattle.std.proofs.Common.{◌≡◌, ℕ, Bool, true, false, not, cond, List, [], ◌∷◌, map, ℤ, Option, Some, None, Ok, refl, subst, ap, ◌∙◌}
 use Rattle.std.proofs.lemmas.Bool.{cond-false}
 use Rattle.dimacs_tokens.specs.Numbers.{token_value}
 use Rattle.dimacs_tokens.specs.Seen.{seen_token, begins_with, list_begins}
-use Rattle.dimacs_front.specs.declared.under.Given.{Given}
-use Rattle.dimacs_front.specs.declared.refused.TextRefused.TheVariants.{BadStart, BadHeader, HeaderTwice}
+use Rattle.dimacs_front.specs.declared.under_lines.Given.{Given}
+use Rattle.dimacs_front.specs.declared.refused.TextRefused.TheVariants.{BadStart, HeaderTwice}
 use Rattle.dimacs_front.specs.declared.line_place.LinePlace.TheVariants.{Beginning, Header, Over, Refused}
-use Rattle.dimacs_front.specs.Limits.{most_variables, most_clauses}
 use Rattle.dimacs_front.specs.Steps.{and_then, needs}
 use Rattle.dimacs_front.specs.HeaderLines.{Below, header_says}
 use Rattle.dimacs_front.specs.NumberLines.{numbers_say}
@@ -18,7 +15,7 @@ use Rattle.dimacs_front.specs.TextLines.{Said, with_below, comment_says, plain_s
 use Rattle.dimacs_front.specs.MachineHeader.{header_begun}
 use Rattle.dimacs_front.specs.Machine.{StateView, at_place, refuse, number_eaten, eaten, closed}
 use Rattle.dimacs_front.proofs.MachineLines.{tokens_said, line_said}
-use Rattle.dimacs_front.proofs.Ties.{standing, state_of, Met, met_either, met_same, met_map, refused_line}
+use Rattle.dimacs_front.proofs.Ties.{standing, state_of, Met, met_same, met_map, refused_line}
 use Rattle.dimacs_front.proofs.HeaderTie.{header_met}
 use Rattle.dimacs_front.proofs.PassedLines.{over_line}
 use Rattle.dimacs_front.proofs.NumberTie.{number_line_met}

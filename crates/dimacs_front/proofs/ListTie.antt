@@ -7,7 +7,7 @@ use Rattle.dimacs_tokens.specs.Seen.{seen_token, is_nil}
 use Rattle.dimacs_front.specs.declared.refused.TextRefused.{TextRefused}
 use Rattle.dimacs_front.specs.declared.refused.TextRefused.TheVariants.{ShowBad, ShowUnended}
 use Rattle.dimacs_front.specs.declared.line_place.LinePlace.TheVariants.{Show}
-use Rattle.dimacs_front.specs.declared.shown.Named.{Named}
+use Rattle.dimacs_front.specs.declared.show_lines.Named.{Named}
 use Rattle.dimacs_front.specs.Limits.{most_variables}
 use Rattle.dimacs_front.specs.Steps.{and_then, needs}
 use Rattle.dimacs_front.specs.HeaderLines.{natural}

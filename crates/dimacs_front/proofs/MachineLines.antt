@@ -2,7 +2,7 @@
 use Rattle.std.specs.Prelude.{ℕ, true, List, map, fold}
 use Rattle.dimacs_tokens.specs.Seen.{seen_token}
 use Rattle.dimacs_front.specs.declared.line_place.LinePlace.TheVariants.{Beginning}
-use Rattle.dimacs_front.specs.declared.shown.Named.{Named}
+use Rattle.dimacs_front.specs.declared.show_lines.Named.{Named}
 use Rattle.dimacs_front.specs.Machine.{StateView, name_once, eaten, closed, at_place}
 
 -- these tokens of line n, and so the whole line

@@ -4,7 +4,7 @@ use Rattle.std.specs.List.{list_any}
 use Rattle.std.proofs.lemmas.Bool.{eqb-true}
 use Rattle.std.proofs.Math.Bool.{or-false, or_assoc}
 use Rattle.std.proofs.lemmas.List.Folds.{list_any-append}
-use Rattle.dimacs_front.specs.declared.shown.Named.{Named}
+use Rattle.dimacs_front.specs.declared.show_lines.Named.{Named}
 use Rattle.dimacs_front.specs.Machine.{is_named, name_once}
 use Rattle.dimacs_front.proofs.MachineLines.{named_in, names_behind}
 

@@ -1,14 +1,16 @@
--- The cubes of a saved text that is read are over the shown variables, and have all given literals.
-use Rattle.std.proofs.Common.{◌≡◌, ℕ, ◌+◌, Bool, true, false, not, cond, ◌&&◌, ◌||◌, eqb, leb, List, [], ◌∷◌, map, drop, length, take, ℤ, nat_abs, Option, Some, None, Result, Ok, Err, IfOk, refl, subst}
+-- The cubes of a saved text that is read are over the shown variables, and have all given literals; and its prefixes are few.
+use Rattle.std.proofs.Common.{◌≡◌, ℕ, ◌+◌, ◌^◌, ◌<◌, ◌≤◌, ◌++◌, fold, arith, Bool, true, false, not, cond, ◌&&◌, ◌||◌, eqb, leb, List, [], ◌∷◌, map, drop, length, take, ℤ, nat_abs, Option, Some, None, Result, Ok, Err, IfOk, refl, subst}
 use Rattle.std.specs.Prelude.{codes}
-use Rattle.std.specs.List.{All, list_all}
-use Rattle.std.proofs.lemmas.Bool.{and_parts}
+use Rattle.std.specs.List.{All, AllPairs, list_all}
+use Rattle.std.proofs.lemmas.List.Quantifiers.{all_pairs_push}
+use Rattle.std.proofs.lemmas.Bool.{and_parts, leb-true}
+use Rattle.std.proofs.lemmas.List.{length_push, length-map}
 use Rattle.std.proofs.lemmas.List.Elements.{All-nil, All-push, All-append, All-head, All-tail}
-use Rattle.dimacs_tokens.specs.Cuts.{lines, complete, tokens}
+use Rattle.dimacs_tokens.specs.Bytes.{is_newline}
+use Rattle.dimacs_tokens.specs.Cuts.{Cut, with_part, line_byte, nothing_cut, cut_lines, lines, complete, tokens}
 use Rattle.dimacs_tokens.specs.Numbers.{token_value}
 use Rattle.dimacs_tokens.specs.Seen.{is_nil, list_begins}
 use Rattle.sat_terms.specs.Cubes.{is_among, rises_above, within, IsCube}
-use Rattle.checkpoint.specs.declared.saved.Saved.{Saved}
 use Rattle.fault_io.specs.Sources.{SourceView}
 use Rattle.dimacs_front.specs.declared.refused.TextRefused.{TextRefused}
 use Rattle.dimacs_front.specs.declared.refused.TextRefused.TheVariants.{BadStart, HeaderTwice, NotBuilt, SavedBad, TextTooLong}
@@ -16,18 +18,18 @@ use Rattle.dimacs_front.specs.declared.refused.ReadRefused.{ReadRefused}
 use Rattle.dimacs_front.specs.declared.saved_lines.SavedLine.{SavedLine}
 use Rattle.dimacs_front.specs.declared.saved_lines.SavedList.{SavedList}
 use Rattle.dimacs_front.specs.declared.saved_lines.SavedList.TheVariants.{Cubes, Pending}
-use Rattle.dimacs_front.specs.declared.under.Given.{Given}
 use Rattle.dimacs_front.specs.declared.input.Input.{Input}
 use Rattle.dimacs_front.specs.Limits.{most_bytes}
 use Rattle.dimacs_front.specs.Steps.{and_then, needs, unless, steps}
 use Rattle.dimacs_front.specs.LineWords.{begins_by, words_of, own_words}
 use Rattle.dimacs_front.specs.HeaderLines.{Below, header_says}
 use Rattle.dimacs_front.specs.NumberLines.{numbers_say}
-use Rattle.dimacs_front.specs.ListLines.{ListLine, list_says, is_literal, show_says, under_says}
+use Rattle.dimacs_front.specs.ListLines.{list_says, is_literal, show_says, under_says}
 use Rattle.dimacs_front.specs.SavedTexts.{SavedSaid, is_version, with_line, unended, cube_says, last_says, own_says, saved_says}
 use Rattle.dimacs_front.specs.TextLines.{Said, with_below, with_show, with_given, with_saved, comment_says, plain_says, line_says, Lines, no_line, next_line, lines_say}
-use Rattle.dimacs_front.specs.TextEnds.{shown_of, is_saved_cube, first_outside, lower_line, cubes_of, saved_of, under_of, first_misplaced, first_above, lowest_outside, shown_says, below_says, end_says, input_of}
+use Rattle.dimacs_front.specs.TextEnds.{shown_of, is_saved_cube, first_outside, lower_line, cubes_of, under_of, first_misplaced, first_above, lowest_outside, end_says}
 use Rattle.dimacs_front.specs.Whole.{last_line, reads}
+use Rattle.dimacs_front.specs.TextLaws.{is_lower_line, SavedLinesRise}
 use Rattle.dimacs_front.specs.Answers.{ReadsText, AreInside, IsSavedOf}
 
 -- ---- the cubes rise
@@ -35,124 +37,245 @@ use Rattle.dimacs_front.specs.Answers.{ReadsText, AreInside, IsSavedOf}
 abbrev rises : SavedLine → Type 0
 rises m = rises_above 0 m.cube ≡ true
 
-record Rising (k : SavedSaid) : Type 0 where
+-- lines that are kept with rising numbers, up to n
+record InOrder (n : ℕ) (ms : List SavedLine) : Type 0 where
+  pub pairs : AllPairs is_lower_line ms
+  pub within : All (λ m. SavedLine.line m ≤ n) ms
+
+none_in_order : InOrder 0 []
+none_in_order = record {
+  pairs = λ i j d lt less. absurd (omega arith);
+  within = All-nil (λ (m : SavedLine). m.line ≤ 0);
+}
+
+later_order : (n m : ℕ) (ms : List SavedLine) → n ≤ m → InOrder n ms → InOrder m ms
+later_order n m ms le h = record {
+  pairs = h.pairs;
+  within = λ i d lt. let before = h.within i d lt in omega arith;
+}
+
+one_more_line : (n : ℕ) (ms : List SavedLine) (c : List ℤ) → InOrder n ms →
+    InOrder (n + 1) (ms ++ record { line = n + 1; cube = c } ∷ [])
+one_more_line n ms c h =
+    let m : SavedLine = record { line = n + 1; cube = c } in
+    record {
+      pairs = all_pairs_push is_lower_line ms m h.pairs (λ i d lt. let before = h.within i d lt in omega arith);
+      within = All-push (λ (k : SavedLine). k.line ≤ n + 1) ms m (later_order n (n + 1) ms (omega arith) h).within (omega arith);
+    }
+
+-- the cubes rise, there are no more prefixes than lines so far, and both are kept in order
+record Rising (n : ℕ) (k : SavedSaid) : Type 0 where
   pub cubes : All rises k.cubes
   pub pending : All rises k.pending
+  pub few : length k.pending ≤ n
+  pub cube_lines : InOrder n k.cubes
+  pub open_lines : InOrder n k.pending
 
-abbrev Keeps : Result SavedSaid TextRefused → Type 0
-Keeps (Ok k) = Rising k
-Keeps (Err r) = Unit {0}
+abbrev Keeps : ℕ → Result SavedSaid TextRefused → Type 0
+Keeps n (Ok k) = Rising n k
+Keeps n (Err r) = Unit {0}
 
-kept_either : (b : Bool) (x y : Result SavedSaid TextRefused) → Keeps x → Keeps y → Keeps (cond b x y)
-kept_either true x y h k = h
-kept_either false x y h k = k
+kept_either : (n : ℕ) (b : Bool) (x y : Result SavedSaid TextRefused) → Keeps n x → Keeps n y →
+    Keeps n (cond b x y)
+kept_either n true x y h k = h
+kept_either n false x y h k = k
 
-line_added : (list : SavedList) (k : SavedSaid) (m : SavedLine) → Rising k → rises m → Rising (with_line list k m)
-line_added Cubes k m h r = record { cubes = All-push rises k.cubes m h.cubes r; pending = h.pending }
-line_added Pending k m h r = record { cubes = h.cubes; pending = All-push rises k.pending m h.pending r }
+later : (n m : ℕ) (k : SavedSaid) → n ≤ m → Rising n k → Rising m k
+later n m k le h = record {
+  cubes = h.cubes;
+  pending = h.pending;
+  few = omega (arith, h.few);
+  cube_lines = later_order n m k.cubes le h.cube_lines;
+  open_lines = later_order n m k.pending le h.open_lines;
+}
 
-module _ (n : ℕ) (k : SavedSaid) (h : Rising k) where
+module _ (n : ℕ) (k : SavedSaid) (h : Rising n k) where
+  line_added : (list : SavedList) (c : List ℤ) → rises_above 0 c ≡ true →
+      Rising (n + 1) (with_line list k (record { line = n + 1; cube = c }))
+  line_added Cubes c r =
+      let m : SavedLine = record { line = n + 1; cube = c } in
+      record {
+        cubes = All-push rises k.cubes m h.cubes r;
+        pending = h.pending;
+        few = omega (arith, h.few);
+        cube_lines = one_more_line n k.cubes c h.cube_lines;
+        open_lines = later_order n (n + 1) k.pending (omega arith) h.open_lines;
+      }
+  line_added Pending c r =
+      let m : SavedLine = record { line = n + 1; cube = c } in
+      record {
+        cubes = h.cubes;
+        pending = All-push rises k.pending m h.pending r;
+        few = omega (arith, h.few, length_push k.pending m);
+        cube_lines = later_order n (n + 1) k.cubes (omega arith) h.cube_lines;
+        open_lines = one_more_line n k.pending c h.open_lines;
+      }
+
+  -- no list is changed
+  same_lists : (named ended : Bool) → Rising (n + 1) (record k { named = named; ended = ended })
+  same_lists named ended = record {
+    cubes = h.cubes;
+    pending = h.pending;
+    few = omega (arith, h.few);
+    cube_lines = later_order n (n + 1) k.cubes (omega arith) h.cube_lines;
+    open_lines = later_order n (n + 1) k.pending (omega arith) h.open_lines;
+  }
+
   cube_added : (list : SavedList) (ls : List ℤ) (q : Bool) → rises_above 0 ls ≡ q →
-      Keeps (and_then (λ ms. Ok (with_line list k (record { line = n; cube = ms }))) (needs q (SavedBad n) (Ok ls)))
-  cube_added list ls true e = line_added list k (record { line = n; cube = ls }) h e
+      Keeps (n + 1) (and_then (λ ms. Ok (with_line list k (record { line = n + 1; cube = ms }))) (needs q (SavedBad (n + 1)) (Ok ls)))
+  cube_added list ls true e = line_added list ls e
   cube_added list ls false e = tt
 
   cube_listed : (list : SavedList) (x : Result (List ℤ) TextRefused) →
-      Keeps (and_then (λ ms. Ok (with_line list k (record { line = n; cube = ms }))) (and_then (λ ls. needs (rises_above 0 ls) (SavedBad n) (Ok ls)) x))
+      Keeps (n + 1) (and_then (λ ms. Ok (with_line list k (record { line = n + 1; cube = ms }))) (and_then (λ ls. needs (rises_above 0 ls) (SavedBad (n + 1)) (Ok ls)) x))
   cube_listed list (Ok ls) = cube_added list ls (rises_above 0 ls) refl
   cube_listed list (Err r) = tt
 
-  cube_kept : (list : SavedList) (ts : List (List ℕ)) → Keeps (unended n k (cube_says list n k ts))
+  cube_kept : (list : SavedList) (ts : List (List ℕ)) →
+      Keeps (n + 1) (unended (n + 1) k (cube_says list (n + 1) k ts))
   cube_kept list ts =
-      kept_either (not k.ended) _ (Err (SavedBad n))
-      (cube_listed list (list_says is_literal (SavedBad n) (SavedBad n) (map token_value ts))) tt
+      kept_either (n + 1) (not k.ended) _ (Err (SavedBad (n + 1)))
+      (cube_listed list (list_says is_literal (SavedBad (n + 1)) (SavedBad (n + 1)) (map token_value ts))) tt
 
-  last_kept : (ts : List (List ℕ)) → Keeps (unended n k (last_says n k ts))
+  last_kept : (ts : List (List ℕ)) → Keeps (n + 1) (unended (n + 1) k (last_says (n + 1) k ts))
   last_kept ts =
-      kept_either (not k.ended) _ (Err (SavedBad n))
-      (kept_either (is_nil ts) _ (Err (SavedBad n)) (record { cubes = h.cubes; pending = h.pending }) tt) tt
+      kept_either (n + 1) (not k.ended) _ (Err (SavedBad (n + 1)))
+      (kept_either (n + 1) (is_nil ts) _ (Err (SavedBad (n + 1))) (same_lists k.named true) tt) tt
 
-  own_kept : (ts : List (List ℕ)) → Keeps (own_says n k ts)
+  own_kept : (ts : List (List ℕ)) → Keeps (n + 1) (own_says (n + 1) k ts)
   own_kept ts =
-      kept_either (begins_by (words_of (codes "cube")) ts) _ _ (cube_kept Cubes (drop 3 ts))
-      (kept_either (begins_by (words_of (codes "open")) ts) _ _ (cube_kept Pending (drop 3 ts))
-      (kept_either (begins_by (words_of (codes "end")) ts) _ _ (last_kept (drop 3 ts)) h))
+      kept_either (n + 1) (begins_by (words_of (codes "cube")) ts) _ _ (cube_kept Cubes (drop 3 ts))
+      (kept_either (n + 1) (begins_by (words_of (codes "open")) ts) _ _ (cube_kept Pending (drop 3 ts))
+      (kept_either (n + 1) (begins_by (words_of (codes "end")) ts) _ _ (last_kept (drop 3 ts))
+      (same_lists k.named k.ended)))
 
-  saved_kept : (ts : List (List ℕ)) → Keeps (saved_says n k ts)
+  saved_kept : (ts : List (List ℕ)) → Keeps (n + 1) (saved_says (n + 1) k ts)
   saved_kept ts =
-      kept_either (eqb n 1 && begins_by (own_words (codes "saved")) ts) _ _
-      (kept_either (is_version (drop 3 ts)) _ (Err (SavedBad n)) (record { cubes = h.cubes; pending = h.pending }) tt)
-      (kept_either k.named _ _ (own_kept ts) h)
+      kept_either (n + 1) (eqb (n + 1) 1 && begins_by (own_words (codes "saved")) ts) _ _
+      (kept_either (n + 1) (is_version (drop 3 ts)) _ (Err (SavedBad (n + 1))) (same_lists true k.ended) tt)
+      (kept_either (n + 1) k.named _ _ (own_kept ts) (same_lists k.named k.ended))
 
 -- ---- behind each line
 
-abbrev Stays : Result Said TextRefused → Type 0
-Stays (Ok s) = Rising s.saved
-Stays (Err r) = Unit {0}
+abbrev Stays : ℕ → Result Said TextRefused → Type 0
+Stays n (Ok s) = Rising n s.saved
+Stays n (Err r) = Unit {0}
 
-either : (b : Bool) (x y : Result Said TextRefused) → Stays x → Stays y → Stays (cond b x y)
-either true x y h k = h
-either false x y h k = k
+either : (n : ℕ) (b : Bool) (x y : Result Said TextRefused) → Stays n x → Stays n y → Stays n (cond b x y)
+either n true x y h k = h
+either n false x y h k = k
 
-each : {A : Type 0} (f : A → Said) (x : Result A TextRefused) → ((a : A) → Rising (f a).saved) →
-    Stays (and_then (λ a. Ok (f a)) x)
-each f (Ok a) h = h a
-each f (Err r) h = tt
+each : {A : Type 0} (n : ℕ) (f : A → Said) (x : Result A TextRefused) → ((a : A) → Rising n (f a).saved) →
+    Stays n (and_then (λ a. Ok (f a)) x)
+each n f (Ok a) h = h a
+each n f (Err r) h = tt
 
-saved_stays : (s : Said) (x : Result SavedSaid TextRefused) → Keeps x → Stays (and_then (λ k. Ok (with_saved s k)) x)
-saved_stays s (Ok k) h = h
-saved_stays s (Err r) h = tt
+saved_stays : (n : ℕ) (s : Said) (x : Result SavedSaid TextRefused) → Keeps n x →
+    Stays n (and_then (λ k. Ok (with_saved s k)) x)
+saved_stays n s (Ok k) h = h
+saved_stays n s (Err r) h = tt
 
-module _ (n : ℕ) (s : Said) (h : Rising s.saved) where
-  comment_stays : (ts : List (List ℕ)) → Stays (comment_says n s ts)
+module _ (n : ℕ) (s : Said) (h : Rising n s.saved) where
+  wider : Rising (n + 1) s.saved
+  wider = later n (n + 1) s.saved (omega arith) h
+
+  comment_stays : (ts : List (List ℕ)) → Stays (n + 1) (comment_says (n + 1) s ts)
   comment_stays ts =
-      either (begins_by (words_of (codes "show")) ts) _ _
-      (each (with_show s) (show_says n (map token_value (drop 3 ts))) (λ m. h))
-      (either (begins_by (words_of (codes "under")) ts) _ _
-      (each (with_given s) (under_says n (map token_value (drop 3 ts))) (λ m. h))
-      (either (not (eqb n 1 && begins_by (own_words (codes "met")) ts)) _ (Err (NotBuilt n))
-      (saved_stays s (saved_says n s.saved ts) (saved_kept n s.saved h ts)) tt))
+      either (n + 1) (begins_by (words_of (codes "show")) ts) _ _
+      (each (n + 1) (with_show s) (show_says (n + 1) (map token_value (drop 3 ts))) (λ m. wider))
+      (either (n + 1) (begins_by (words_of (codes "under")) ts) _ _
+      (each (n + 1) (with_given s) (under_says (n + 1) (map token_value (drop 3 ts))) (λ m. wider))
+      (either (n + 1) (not (eqb (n + 1) 1 && begins_by (own_words (codes "met")) ts)) _ (Err (NotBuilt (n + 1)))
+      (saved_stays (n + 1) s (saved_says (n + 1) s.saved ts) (saved_kept n s.saved h ts)) tt))
 
-  plain_stays : (o : Option Below) (t : List ℕ) (ts : List (List ℕ)) → Stays (plain_says n s o t ts)
+  plain_stays : (o : Option Below) (t : List ℕ) (ts : List (List ℕ)) →
+      Stays (n + 1) (plain_says (n + 1) s o t ts)
   plain_stays None t ts =
-      either (list_begins t 112) _ (Err (BadStart n)) (each (with_below s) (header_says n (t ∷ ts)) (λ w. h)) tt
+      either (n + 1) (list_begins t 112) _ (Err (BadStart (n + 1)))
+      (each (n + 1) (with_below s) (header_says (n + 1) (t ∷ ts)) (λ w. wider)) tt
   plain_stays (Some w) t ts =
-      either (not (list_begins t 112)) _ (Err (HeaderTwice n))
-      (either (list_begins t 37) (Ok (record s { over = true })) _ h
-      (each (with_below s) (numbers_say n w (map token_value (t ∷ ts))) (λ v. h)))
+      either (n + 1) (not (list_begins t 112)) _ (Err (HeaderTwice (n + 1)))
+      (either (n + 1) (list_begins t 37) (Ok (record s { over = true })) _ wider
+      (each (n + 1) (with_below s) (numbers_say (n + 1) w (map token_value (t ∷ ts))) (λ v. wider)))
       tt
 
-  line_stays : (ts : List (List ℕ)) → Stays (line_says n s ts)
+  line_stays : (ts : List (List ℕ)) → Stays (n + 1) (line_says (n + 1) s ts)
   unfolding line_says
-  line_stays [] = h
+  line_stays [] = wider
   line_stays (t ∷ ts) =
-      either s.over (Ok s) _ h
-      (either (list_begins t 99) _ _ (comment_stays (t ∷ ts)) (plain_stays s.below t ts))
+      either (n + 1) s.over (Ok s) _ wider
+      (either (n + 1) (list_begins t 99) _ _ (comment_stays (t ∷ ts)) (plain_stays s.below t ts))
 
-abbrev AllStay : Result Lines TextRefused → Type 0
-AllStay (Ok j) = Rising j.said.saved
-AllStay (Err r) = Unit {0}
+-- behind line n
+abbrev AllStay : ℕ → Result Lines TextRefused → Type 0
+AllStay n (Ok j) = (j.count ≡ n) × Rising n j.said.saved
+AllStay n (Err r) = Unit {0}
 
-next_stays : (n : ℕ) (x : Result Said TextRefused) → Stays x →
-    AllStay (and_then (λ s. Ok (record { count = n; said = s })) x)
-next_stays n (Ok s) h = h
+next_stays : (n : ℕ) (x : Result Said TextRefused) → Stays n x →
+    AllStay n (and_then (λ s. Ok (record { count = n; said = s })) x)
+next_stays n (Ok s) h = (refl, h)
 next_stays n (Err r) h = tt
 
-lines_stay : (j : Lines) (ls : List (List ℕ)) → Rising j.said.saved → AllStay (steps next_line j ls)
-lines_stay j [] h = h
-lines_stay j (l ∷ ls) h =
-    at (next_line j l) (next_stays (j.count + 1) (line_says (j.count + 1) j.said (tokens l)) (line_stays (j.count + 1) j.said h (tokens l)))
-    (λ k. lines_stay k ls)
+lines_stay : (n : ℕ) (j : Lines) (ls : List (List ℕ)) → (j.count ≡ n) × Rising n j.said.saved →
+    AllStay (n + length ls) (steps next_line j ls)
+lines_stay n j [] h =
+    let same : n ≡ n + 0 = omega arith in subst (λ m. AllStay m (Ok j)) same h
+lines_stay n j (l ∷ ls) h =
+    at (next_line j l)
+    (subst (λ m. AllStay (m + 1) (next_line j l)) h.0 (next_stays (j.count + 1) (line_says (j.count + 1) j.said (tokens l))
+    (line_stays j.count j.said (later n j.count j.said.saved (omega (arith, h.0)) h.1) (tokens l))))
+    (λ k. lines_stay (n + 1) k ls)
   where
-    at : (x : Result Lines TextRefused) → AllStay x →
-        ((k : Lines) → Rising k.said.saved → AllStay (steps next_line k ls)) →
-        AllStay (and_then (λ k. steps next_line k ls) x)
-    at (Ok k) r more = more k r
+    at : (x : Result Lines TextRefused) → AllStay (n + 1) x →
+        ((k : Lines) → (k.count ≡ n + 1) × Rising (n + 1) k.said.saved →
+        AllStay (n + 1 + length ls) (steps next_line k ls)) →
+        AllStay (n + length (l ∷ ls)) (and_then (λ k. steps next_line k ls) x)
+    at (Ok k) r more =
+        let same : n + 1 + length ls ≡ n + length (l ∷ ls) = omega arith in
+        subst (λ m. AllStay m (steps next_line k ls)) same (more k r)
     at (Err r) e more = tt
 
-text_stays : (ls : List (List ℕ)) → AllStay (lines_say ls)
+text_stays : (ls : List (List ℕ)) → AllStay (length ls) (lines_say ls)
 unfolding lines_say
-text_stays ls = lines_stay no_line ls (record { cubes = All-nil rises; pending = All-nil rises })
+text_stays ls =
+    let none : Rising 0 no_line.said.saved = record {
+      cubes = All-nil rises;
+      pending = All-nil rises;
+      few = omega arith;
+      cube_lines = none_in_order;
+      open_lines = none_in_order;
+    } in
+    let same : 0 + length ls ≡ length ls = omega arith in
+    subst (λ m. AllStay m (steps next_line no_line ls)) same (lines_stay 0 no_line ls (refl, none))
+
+pub saved_lines_rise : SavedLinesRise
+saved_lines_rise ls j e =
+    let h : AllStay (length ls) (Ok j) = subst (λ (x : Result Lines TextRefused). AllStay (length ls) x) e (text_stays ls) in
+    (h.1.cube_lines.pairs, h.1.open_lines.pairs)
+
+-- ---- no more lines than bytes
+
+abbrev parts_of : Cut → ℕ
+parts_of c = length c.whole + length c.open_part
+
+byte_parts : (c : Cut) (b : ℕ) (q : Bool) →
+    parts_of (cond q (record { whole = c.whole ++ c.open_part ∷ []; open_part = [] }) (record { whole = c.whole; open_part = c.open_part ++ b ∷ [] })) ≤ parts_of c + 1
+byte_parts c b true = omega (arith, length_push c.whole c.open_part)
+byte_parts c b false = omega (arith, length_push c.open_part b)
+
+all_parts : (c : Cut) (bs : List ℕ) → parts_of (fold line_byte c bs) ≤ parts_of c + length bs
+all_parts c [] = omega arith
+all_parts c (b ∷ bs) =
+    omega (arith, all_parts (line_byte c b) bs, byte_parts c b (is_newline b))
+
+last_part : (ws : List (List ℕ)) (part : List ℕ) → length (with_part ws part) ≤ length ws + length part
+last_part ws [] = omega arith
+last_part ws (b ∷ bs) = omega (arith, length_push ws (b ∷ bs))
+
+few_lines : (bs : List ℕ) → length (lines bs) ≤ length bs
+unfolding cut_lines
+few_lines bs =
+    omega (arith, last_part (cut_lines bs).whole (cut_lines bs).open_part, all_parts nothing_cut bs)
 
 -- ---- the end
 
@@ -184,12 +307,17 @@ module _ (vs : List ℕ) (u : List ℤ) where
   none_lower (Some m) None e = absurd (cc)
   none_lower (Some m) (Some n) e = absurd (cc)
 
-  saved_inside : (k : SavedSaid) (named : Bool) → Rising k → lowest_outside vs u k ≡ None →
+  saved_inside : (n : ℕ) (k : SavedSaid) (named : Bool) → n < 2 ^ 32 → Rising n k → lowest_outside vs u k ≡ None →
       IsSavedOf vs u (cond named (Some (record { cubes = cubes_of k.cubes; pending = cubes_of k.pending })) None)
-  saved_inside k true h e =
+  saved_inside n k true few h e =
       let (a, b) = none_lower (first_outside vs u k.cubes) (first_outside vs u k.pending) e in
-      (all_inside k.cubes h.cubes a, all_inside k.pending h.pending b)
-  saved_inside k false h e = tt
+      let same : length (cubes_of k.pending) ≡ length k.pending = length-map k.pending (λ m. SavedLine.cube m) in
+      record {
+        cubes = all_inside k.cubes h.cubes a;
+        pending = all_inside k.pending h.pending b;
+        few = omega (arith, h.few, same, few);
+      }
+  saved_inside n k false few h e = tt
 
 abbrev Tells : Result Input TextRefused → Type 0
 Tells (Ok input) = IsSavedOf input.subject.shown input.subject.under input.saved
@@ -203,9 +331,9 @@ tells_unless : (o : Option ℕ) (f : ℕ → TextRefused) (x : Result Input Text
 tells_unless None f x h = h refl
 tells_unless (Some n) f x h = tt
 
-end_tells : (n : ℕ) (s : Said) (o : Option Below) → Rising s.saved → Tells (end_says n s o)
-end_tells n s None h = tt
-end_tells n s (Some w) h =
+end_tells : (n m : ℕ) (s : Said) (o : Option Below) → m < 2 ^ 32 → Rising m s.saved → Tells (end_says n s o)
+end_tells n m s None few h = tt
+end_tells n m s (Some w) few h =
     let vs : List ℕ = shown_of w s.shows in
     let u : List ℤ = under_of s.given vs in
     tells_needs (is_nil w.open_clause) _ _
@@ -214,26 +342,27 @@ end_tells n s (Some w) h =
     (tells_unless (first_above w.variables s.shows) _ _ (λ e.
     tells_needs (leb (length vs) _) _ _
     (tells_unless (first_misplaced vs [] s.given) _ _ (λ f.
-    tells_unless (lowest_outside vs u s.saved) _ _ (λ g. saved_inside vs u s.saved s.saved.named h g)))))))
+    tells_unless (lowest_outside vs u s.saved) _ _ (λ g. saved_inside vs u m s.saved s.saved.named few h g)))))))
 
-read_tells : (x : Result Lines TextRefused) → AllStay x →
+read_tells : (m : ℕ) (x : Result Lines TextRefused) → m < 2 ^ 32 → AllStay m x →
     Tells (and_then (λ j. end_says (last_line j.count) j.said j.said.below) x)
-read_tells (Ok j) h = end_tells (last_line j.count) j.said j.said.below h
-read_tells (Err r) h = tt
+read_tells m (Ok j) few h = end_tells (last_line j.count) m j.said j.said.below few h.1
+read_tells m (Err r) few h = tt
 
 long_tells : (x : Result Lines TextRefused) → Tells (and_then (λ j. Err (TextTooLong (Lines.count j + 1))) x)
 long_tells (Ok j) = tt
 long_tells (Err r) = tt
 
-tells_either : (b : Bool) (x y : Result Input TextRefused) → Tells x → Tells y → Tells (cond b x y)
-tells_either true x y h k = h
+tells_either : (b : Bool) (x y : Result Input TextRefused) → (b ≡ true → Tells x) → Tells y → Tells (cond b x y)
+tells_either true x y h k = h refl
 tells_either false x y h k = k
 
 reads_tell : (bs : List ℕ) → Tells (reads bs)
 unfolding reads
 reads_tell bs =
     tells_either (leb (length bs) most_bytes) _ _
-    (read_tells (lines_say (lines bs)) (text_stays (lines bs)))
+    (λ e. let le : length bs ≤ most_bytes = leb-true (length bs) most_bytes e in
+    read_tells (length (lines bs)) (lines_say (lines bs)) (omega (arith, few_lines bs, le)) (text_stays (lines bs)))
     (long_tells (lines_say (complete (take most_bytes bs))))
 
 pub text_inside : (old new : SourceView) (result : Result Input ReadRefused) →

@@ -9,7 +9,7 @@ use Rattle.sat_terms.specs.Cubes.{rises_above, last_variable}
 use Rattle.dimacs_front.specs.declared.refused.TextRefused.{TextRefused}
 use Rattle.dimacs_front.specs.declared.refused.TextRefused.TheVariants.{SavedBad}
 use Rattle.dimacs_front.specs.declared.saved_lines.SavedList.{SavedList}
-use Rattle.dimacs_front.specs.declared.saved_line.SavedPlace.TheVariants.{First, Listed, Complete, End}
+use Rattle.dimacs_front.specs.declared.saved_place.SavedPlace.TheVariants.{First, Listed, Complete, End}
 use Rattle.dimacs_front.specs.declared.line_place.LinePlace.TheVariants.{Beginning, Saved}
 use Rattle.dimacs_front.specs.Limits.{most_variables}
 use Rattle.dimacs_front.specs.Steps.{and_then, needs}

@@ -19,15 +19,15 @@ use Rattle.dimacs_front.specs.declared.refused.TextRefused.{TextRefused}
 use Rattle.dimacs_front.specs.declared.refused.TextRefused.TheVariants.{HeaderTwice, VariableTooLarge, ShowBad, TooManyVariables, TooManyClauses, TooManyLiterals, UnderBad, SavedBad}
 use Rattle.dimacs_front.specs.declared.refused.ReadRefused.{ReadRefused}
 use Rattle.dimacs_front.specs.declared.line_place.LinePlace.{LinePlace}
-use Rattle.dimacs_front.specs.declared.header_line.HeaderPlace.{HeaderPlace}
-use Rattle.dimacs_front.specs.declared.header_line.HeaderPlace.TheVariants.{Word, Variables, Clauses, End, Broken}
+use Rattle.dimacs_front.specs.declared.header_place.HeaderPlace.{HeaderPlace}
+use Rattle.dimacs_front.specs.declared.header_place.HeaderPlace.TheVariants.{Word, Variables, Clauses, End, Broken}
 use Rattle.dimacs_front.specs.declared.line_place.LinePlace.TheVariants.{Beginning, Header, Numbers, Comment, Show, ShowEnd, Under, UnderEnd, Saved, Over, Refused}
 use Rattle.dimacs_front.specs.declared.saved_lines.SavedList.{SavedList}
-use Rattle.dimacs_front.specs.declared.saved_line.SavedPlace.{SavedPlace}
-use Rattle.dimacs_front.specs.declared.saved_line.SavedPlace.TheVariants as saved
-use Rattle.dimacs_front.specs.declared.saved_line.SavedPlace.TheVariants.{First, Listed, Complete}
-use Rattle.dimacs_front.specs.declared.shown.Named.{Named}
-use Rattle.dimacs_front.specs.declared.under.Given.{Given}
+use Rattle.dimacs_front.specs.declared.saved_place.SavedPlace.{SavedPlace}
+use Rattle.dimacs_front.specs.declared.saved_place.SavedPlace.TheVariants as saved
+use Rattle.dimacs_front.specs.declared.saved_place.SavedPlace.TheVariants.{First, Listed, Complete}
+use Rattle.dimacs_front.specs.declared.show_lines.Named.{Named}
+use Rattle.dimacs_front.specs.declared.under_lines.Given.{Given}
 use Rattle.dimacs_front.specs.declared.input.Input.{Input}
 use Rattle.dimacs_front.specs.TextEnds.{first_misplaced, under_of, lowest_outside, input_of}
 use Rattle.sat_terms.specs.Cubes.{has_literal, last_variable}
@@ -307,6 +307,8 @@ shown_limits s vs e le h =
         under = tested_cube (λ u. has_literal ls (pos u)) (λ u. has_literal ls (neg_ℤ (pos u))) vs rises
             (λ k d lt. (named k d lt).0);
       };
+      clauses = h.few_clauses;
+      literals = omega (arith, h.counted, h.few_literals);
       shown = le;
     }
 

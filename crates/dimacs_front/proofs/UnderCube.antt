@@ -1,7 +1,7 @@
 -- Literals of rising variables, for each at most one, make a cube over these.
-use Rattle.std.proofs.Common.{◌≡◌, ℕ, zero, suc, ◌+◌, ◌<◌, ◌≤◌, ◌^◌, Bool, true, false, cond, ◌&&◌, ◌||◌, ltb, List, [], ◌∷◌, ◌++◌, length, ℤ, pos, nat_abs, refl, sym, subst, ap, ◌∙◌, arith}
+use Rattle.std.proofs.Common.{◌≡◌, ℕ, zero, suc, ◌+◌, ◌<◌, ◌≤◌, ◌^◌, Bool, true, false, cond, ◌&&◌, ◌||◌, List, [], ◌∷◌, ◌++◌, length, ℤ, pos, nat_abs, refl, sym, subst, ap, ◌∙◌, arith}
 use Rattle.std.specs.Prelude.{flat_map, get_or, nat_eq, nat_lt, neg_ℤ}
-use Rattle.std.specs.List.{All, list_all, list_any}
+use Rattle.std.specs.List.{All, list_all}
 use Rattle.std.specs.List.Sorted.{IsStrictlyIncreasing}
 use Rattle.std.proofs.lemmas.Bool.{and_parts, and_from, or_right, lt-ltb, ltb-true}
 use Rattle.std.proofs.lemmas.Cmp.{nat_eq_equiv}
@@ -9,11 +9,11 @@ use Rattle.std.proofs.lemmas.List.Elements.{All-nil, All-push, All-append, All-h
 use Rattle.sat_terms.specs.Literals.{IsLiteral}
 use Rattle.sat_terms.specs.Cubes.{IsCube, is_among, rises_above}
 
-abbrev rises : ℕ → List ℕ → Bool
+abbrev pub rises : ℕ → List ℕ → Bool
 rises n [] = true
 rises n (v ∷ p) = nat_lt n v && rises v p
 
-rises_from_increasing : (n : ℕ) (p : List ℕ) → IsStrictlyIncreasing p → (0 < length p → n < get_or p 0 0) → rises n p ≡ true
+pub rises_from_increasing : (n : ℕ) (p : List ℕ) → IsStrictlyIncreasing p → (0 < length p → n < get_or p 0 0) → rises n p ≡ true
 rises_from_increasing n [] up h = refl
 rises_from_increasing n (v ∷ p) up h =
     and_from (nat_lt n v) (rises v p) (lt-ltb n v (h (omega arith)))

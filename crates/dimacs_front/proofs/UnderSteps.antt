@@ -1,19 +1,19 @@
 -- The given literals, one by one.
-use Rattle.std.proofs.Common.{◌≡◌, ℕ, ◌+◌, ◌<◌, ◌≤◌, Bool, true, false, cond, List, [], ◌∷◌, ◌++◌, map, length, drop, take, ℤ, pos, Option, Some, None, refl, sym, subst, ap, ◌∙◌, append-nil, append_assoc, arith}
+use Rattle.std.proofs.Common.{◌≡◌, ℕ, ◌+◌, ◌<◌, ◌≤◌, true, false, cond, List, [], ◌∷◌, ◌++◌, map, length, drop, take, ℤ, pos, Some, refl, sym, subst, ap, ◌∙◌, append-nil, append_assoc}
 use Rattle.std.specs.Prelude.{flat_map, get_or, neg_ℤ}
 use Rattle.std.specs.List.{All}
 use Rattle.std.proofs.lemmas.Bool.{cond-true, cond-false}
 use Rattle.std.proofs.lemmas.List.{drop_more, drop_all, take_more, take_all, map-append}
 use Rattle.std.proofs.lemmas.List.Elements.{All-head, All-tail}
 use Rattle.sat_terms.specs.Literals.{IsLiteral}
-use Rattle.sat_terms.specs.Cubes.{has_literal, rises_above}
+use Rattle.sat_terms.specs.Cubes.{rises_above}
 use Rattle.sat_terms.specs.Subjects.{IsVariableList}
-use Rattle.dimacs_front.specs.declared.shown.Named.{Named}
-use Rattle.dimacs_front.specs.declared.under.Given.{Given}
+use Rattle.dimacs_front.specs.declared.show_lines.Named.{Named}
+use Rattle.dimacs_front.specs.declared.under_lines.Given.{Given}
 use Rattle.dimacs_front.specs.MachineUnder.{AreSigns, signed, IsUnder}
 use Rattle.dimacs_front.specs.Machine.{is_named}
 use Rattle.dimacs_front.proofs.UnderCube.{tested_rise, tested_literals}
-use Rattle.dimacs_front.specs.TextEnds.{is_placed, first_misplaced, given_for, under_of}
+use Rattle.dimacs_front.specs.TextEnds.{is_placed, first_misplaced, given_for}
 
 -- a list made for each item, one item on
 pub made_more : (f : ℕ → List ℤ) (vs : List ℕ) (k d : ℕ) (all items new : List ℤ) →

@@ -1,7 +1,7 @@
 -- What the reading of a text from a source answers.
-use Rattle.std.specs.Prelude.{◌≡◌, ℕ, ◌+◌, ◌<◌, ◌≤◌, ◌⊎◌, true, List, ◌++◌, length, ℤ, Option, Some, None, Result, Ok, Err}
+use Rattle.std.specs.Prelude.{◌≡◌, ℕ, ◌+◌, ◌^◌, ◌<◌, ◌≤◌, ◌⊎◌, true, List, ◌++◌, length, ℤ, Option, Some, None, Result, Ok, Err}
 use Rattle.dimacs_tokens.specs.Cuts.{complete}
-use Rattle.std.specs.List.{All}
+use Rattle.std.specs.List.{All, sum_by}
 use Rattle.sat_terms.specs.Cubes.{within, IsCube}
 use Rattle.sat_terms.specs.Subjects.{IsSubject}
 use Rattle.checkpoint.specs.declared.saved.Saved.{Saved}
@@ -13,7 +13,7 @@ use Rattle.dimacs_front.specs.declared.refused.TextRefused.TheVariants.{TextTooL
 use Rattle.dimacs_front.specs.declared.refused.ReadRefused.{ReadRefused}
 use Rattle.dimacs_front.specs.declared.refused.ReadRefused.TheVariants.{Text, ReadFault, OutOfMemory}
 use Rattle.dimacs_front.specs.declared.input.Input.{Input}
-use Rattle.dimacs_front.specs.Limits.{most_bytes, piece_size, most_shown}
+use Rattle.dimacs_front.specs.Limits.{most_bytes, piece_size, most_clauses, most_literals, most_shown}
 use Rattle.dimacs_front.specs.Whole.{reads, stops}
 
 -- all bytes were taken, and they say this input
@@ -74,10 +74,12 @@ TellsText (Some bs) (Ok input) = reads bs ≡ Ok input
 TellsText (Some bs) (Err (Text r)) = reads bs ≡ Err r
 TellsText left result = Unit {0}
 
--- the subject is one that every search takes, and shows few variables
+-- the subject is one that every search takes, and none of its sizes is above the limits
 pub record IsWithinLimits (input : Input) : Type 0 where
   pub subject : IsSubject input.subject.formula.variables input.subject.formula.clauses
       input.subject.shown input.subject.under
+  pub clauses : length input.subject.formula.clauses ≤ most_clauses
+  pub literals : sum_by length input.subject.formula.clauses ≤ most_literals
   pub shown : length input.subject.shown ≤ most_shown
 
 -- the cubes are over the shown variables, and have all given literals
@@ -85,7 +87,13 @@ pub record AreInside (vs : List ℕ) (u : List ℤ) (cs : List (List ℤ)) : Typ
   pub over : All (IsCube vs) cs
   pub inside : All (λ c. within c u ≡ true) cs
 
--- what a saved text has besides is
+-- what a saved text has besides: cubes and prefixes that are so, and the prefixes can be numbered
+pub record IsInside (vs : List ℕ) (u : List ℤ) (saved : Saved) : Type 0 where
+  pub cubes : AreInside vs u saved.cubes
+  pub pending : AreInside vs u saved.pending
+  pub few : length saved.pending < 2 ^ 32
+
+-- where the text is a saved text
 abbrev pub IsSavedOf : List ℕ → List ℤ → Option Saved → Type 0
 IsSavedOf vs u None = Unit {0}
-IsSavedOf vs u (Some saved) = AreInside vs u saved.cubes × AreInside vs u saved.pending
+IsSavedOf vs u (Some saved) = IsInside vs u saved

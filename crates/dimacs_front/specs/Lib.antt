@@ -1,4 +1,5 @@
 pub mod Answers
+pub mod EndLaws
 pub mod HeaderLines
 pub mod Limits
 pub mod LineWords
@@ -13,6 +14,8 @@ pub mod MachineUnder
 pub mod NumberLines
 pub mod Numbering
 pub mod Pieces
+pub mod RefusalLaws
+pub mod SavedLaws
 pub mod SavedTexts
 pub mod Steps
 pub mod TextEnds

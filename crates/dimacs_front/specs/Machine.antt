@@ -6,17 +6,17 @@ use Rattle.std.specs.Str.{bytes_eq}
 use Rattle.dimacs_tokens.specs.Numbers.{value_of}
 use Rattle.dimacs_tokens.specs.Seen.{SeenView, begins_with}
 use Rattle.dimacs_front.specs.declared.refused.TextRefused.{TextRefused}
-use Rattle.dimacs_front.specs.declared.refused.TextRefused.TheVariants.{BadHeader, HeaderTwice, BadNumber, VariableTooLarge, ShowBad, ShowUnended, TooManyVariables, TooManyClauses, TooManyLiterals, UnderBad, SavedBad}
+use Rattle.dimacs_front.specs.declared.refused.TextRefused.TheVariants.{BadHeader, HeaderTwice, BadNumber, VariableTooLarge, ShowBad, TooManyVariables, TooManyClauses, TooManyLiterals, UnderBad, SavedBad}
 use Rattle.dimacs_front.specs.declared.line_place.LinePlace.{LinePlace}
-use Rattle.dimacs_front.specs.declared.header_line.HeaderPlace.{HeaderPlace}
-use Rattle.dimacs_front.specs.declared.header_line.HeaderPlace.TheVariants.{End}
+use Rattle.dimacs_front.specs.declared.header_place.HeaderPlace.{HeaderPlace}
+use Rattle.dimacs_front.specs.declared.header_place.HeaderPlace.TheVariants.{End}
 use Rattle.dimacs_front.specs.declared.saved_lines.SavedList.{SavedList}
-use Rattle.dimacs_front.specs.declared.saved_line.SavedPlace.{SavedPlace}
-use Rattle.dimacs_front.specs.declared.saved_line.SavedPlace.TheVariants as saved
-use Rattle.dimacs_front.specs.declared.saved_line.SavedPlace.TheVariants.{First, Listed, Complete}
+use Rattle.dimacs_front.specs.declared.saved_place.SavedPlace.{SavedPlace}
+use Rattle.dimacs_front.specs.declared.saved_place.SavedPlace.TheVariants as saved
+use Rattle.dimacs_front.specs.declared.saved_place.SavedPlace.TheVariants.{First, Listed, Complete}
 use Rattle.dimacs_front.specs.declared.line_place.LinePlace.TheVariants.{Beginning, Header, Numbers, Comment, Show, ShowEnd, Under, UnderEnd, Saved, Over, Refused}
-use Rattle.dimacs_front.specs.declared.shown.Named.{Named}
-use Rattle.dimacs_front.specs.declared.under.Given.{Given}
+use Rattle.dimacs_front.specs.declared.show_lines.Named.{Named}
+use Rattle.dimacs_front.specs.declared.under_lines.Given.{Given}
 use Rattle.dimacs_front.specs.Limits.{most_variables, most_clauses, most_literals}
 use Rattle.dimacs_front.specs.HeaderLines.{natural}
 use Rattle.sat_terms.specs.Cubes.{last_variable}

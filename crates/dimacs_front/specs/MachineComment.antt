@@ -2,8 +2,8 @@
 use Rattle.std.specs.Prelude.{ℕ, cond, ◌&&◌, ◌==◌, codes}
 use Rattle.std.specs.Str.{bytes_eq}
 use Rattle.dimacs_tokens.specs.Seen.{SeenView}
-use Rattle.dimacs_front.specs.declared.comment_line.CommentPlace.{CommentPlace}
-use Rattle.dimacs_front.specs.declared.comment_line.CommentPlace.TheVariants.{Word, Parted, Named, Show, Under, Cube, Open, End, Saved, Met, Passed}
+use Rattle.dimacs_front.specs.declared.comment_place.CommentPlace.{CommentPlace}
+use Rattle.dimacs_front.specs.declared.comment_place.CommentPlace.TheVariants.{Word, Parted, Named, Show, Under, Cube, Open, End, Saved, Met, Passed}
 
 abbrev pub comment_begun : SeenView → CommentPlace
 comment_begun t = cond (bytes_eq t.head (codes "c")) Word Passed

@@ -6,8 +6,8 @@ use Rattle.std.specs.List.{filter, range_with_len}
 use Rattle.dimacs_tokens.specs.Seen.{is_nil}
 use Rattle.dimacs_front.specs.declared.refused.TextRefused.{TextRefused}
 use Rattle.dimacs_front.specs.declared.refused.TextRefused.TheVariants.{NoHeader, Unfinished, ClauseCount, ShowBad, TooManyShown, UnderBad, SavedBad, SavedUnended}
-use Rattle.dimacs_front.specs.declared.shown.Named.{Named}
-use Rattle.dimacs_front.specs.declared.under.Given.{Given}
+use Rattle.dimacs_front.specs.declared.show_lines.Named.{Named}
+use Rattle.dimacs_front.specs.declared.under_lines.Given.{Given}
 use Rattle.dimacs_front.specs.declared.input.Input.{Input}
 use Rattle.dimacs_front.specs.SavedTexts.{SavedSaid}
 use Rattle.dimacs_front.specs.TextEnds.{first_misplaced, under_of, lowest_outside, input_of}

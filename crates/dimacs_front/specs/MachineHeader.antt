@@ -3,8 +3,8 @@ use Rattle.std.specs.Prelude.{ℕ, cond, codes, Option, Some, None}
 use Rattle.std.specs.Str.{bytes_eq}
 use Rattle.dimacs_tokens.specs.Numbers.{value_of}
 use Rattle.dimacs_tokens.specs.Seen.{SeenView}
-use Rattle.dimacs_front.specs.declared.header_line.HeaderPlace.{HeaderPlace}
-use Rattle.dimacs_front.specs.declared.header_line.HeaderPlace.TheVariants.{Word, Variables, Clauses, End, Broken}
+use Rattle.dimacs_front.specs.declared.header_place.HeaderPlace.{HeaderPlace}
+use Rattle.dimacs_front.specs.declared.header_place.HeaderPlace.TheVariants.{Word, Variables, Clauses, End, Broken}
 use Rattle.dimacs_front.specs.HeaderLines.{natural}
 
 abbrev pub header_begun : SeenView → HeaderPlace

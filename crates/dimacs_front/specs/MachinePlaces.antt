@@ -4,11 +4,11 @@ use Rattle.std.specs.Prelude.{ℕ, cond, Option, Some, None}
 use Rattle.dimacs_tokens.specs.Seen.{SeenView, begins_with}
 use Rattle.dimacs_front.specs.declared.refused.TextRefused.{TextRefused}
 use Rattle.dimacs_front.specs.declared.refused.TextRefused.TheVariants.{BadStart, ShowUnended, UnderUnended, SavedBad, NotBuilt}
-use Rattle.dimacs_front.specs.declared.comment_line.CommentPlace.{CommentPlace}
-use Rattle.dimacs_front.specs.declared.comment_line.CommentPlace.TheVariants as comment
+use Rattle.dimacs_front.specs.declared.comment_place.CommentPlace.{CommentPlace}
+use Rattle.dimacs_front.specs.declared.comment_place.CommentPlace.TheVariants as comment
 use Rattle.dimacs_front.specs.declared.saved_lines.SavedList.TheVariants.{Cubes, Pending}
-use Rattle.dimacs_front.specs.declared.saved_line.SavedPlace.{SavedPlace}
-use Rattle.dimacs_front.specs.declared.saved_line.SavedPlace.TheVariants.{First, Listed, End}
+use Rattle.dimacs_front.specs.declared.saved_place.SavedPlace.{SavedPlace}
+use Rattle.dimacs_front.specs.declared.saved_place.SavedPlace.TheVariants.{First, Listed, End}
 use Rattle.dimacs_front.specs.declared.line_place.LinePlace.{LinePlace}
 use Rattle.dimacs_front.specs.declared.line_place.LinePlace.TheVariants.{Beginning, Header, Comment, Show, Under, Saved, Over, Refused}
 use Rattle.dimacs_front.specs.SavedTexts.{SavedSaid}

@@ -2,8 +2,8 @@
 -- negations are.
 use Rattle.std.specs.Prelude.{◌≡◌, ℕ, ◌<◌, cond, List, [], ◌∷◌, ℤ, pos, neg_ℤ, Some, None, Result, Ok, Err}
 use Rattle.sat_terms.specs.Cubes.{has_literal}
-use Rattle.dimacs_front.specs.declared.shown.Named.{Named}
-use Rattle.dimacs_front.specs.declared.under.Given.{Given}
+use Rattle.dimacs_front.specs.declared.show_lines.Named.{Named}
+use Rattle.dimacs_front.specs.declared.under_lines.Given.{Given}
 use Rattle.dimacs_front.specs.Machine.{is_named}
 use Rattle.dimacs_front.specs.TextEnds.{first_misplaced, under_of}
 

@@ -7,7 +7,7 @@ use Rattle.dimacs_front.specs.declared.refused.TextRefused.{TextRefused}
 use Rattle.dimacs_front.specs.declared.refused.TextRefused.TheVariants.{NoHeader, Unfinished, ClauseCount, ShowBad, TooManyShown, UnderBad, SavedBad, SavedUnended}
 use Rattle.sat_terms.specs.Cubes.{is_among, has_literal, within}
 use Rattle.checkpoint.specs.declared.saved.Saved.{Saved}
-use Rattle.dimacs_front.specs.declared.under.Given.{Given}
+use Rattle.dimacs_front.specs.declared.under_lines.Given.{Given}
 use Rattle.dimacs_front.specs.declared.saved_lines.SavedLine.{SavedLine}
 use Rattle.dimacs_front.specs.declared.input.Input.{Input}
 use Rattle.dimacs_front.specs.Limits.{most_shown}

@@ -3,7 +3,8 @@ use Rattle.std.specs.Prelude.{◌≡◌, ℕ, ◌+◌, ◌<◌, ◌≤◌, ℤ, 
 use Rattle.std.specs.List.{All, AllPairs}
 use Rattle.dimacs_tokens.specs.Numbers.{token_value}
 use Rattle.dimacs_tokens.specs.Seen.{list_begins}
-use Rattle.dimacs_front.specs.declared.under.Given.{Given}
+use Rattle.dimacs_front.specs.declared.saved_lines.SavedLine.{SavedLine}
+use Rattle.dimacs_front.specs.declared.under_lines.Given.{Given}
 use Rattle.dimacs_front.specs.declared.refused.TextRefused.{TextRefused}
 use Rattle.dimacs_front.specs.declared.refused.TextRefused.TheVariants.{ShowBad, ShowUnended}
 use Rattle.dimacs_front.specs.Limits.{most_variables, most_clauses, most_literals}
@@ -25,11 +26,21 @@ number_written w l = cond (nat_abs l == 0) (clause_ended w) (literal_added w l)
 abbrev pub numbers_written : Below → List ℤ → Below
 numbers_written w ls = fold number_written w ls
 
--- each number is a 0 or a literal of the header's variables, and there is room for all of them
+-- how many of the numbers are a 0, which ends a clause, and how many are literals
+abbrev pub zeros_in : List ℤ → ℕ
+zeros_in [] = 0
+zeros_in (l ∷ ls) = cond (nat_abs l == 0) (zeros_in ls + 1) (zeros_in ls)
+
+abbrev pub literals_in : List ℤ → ℕ
+literals_in [] = 0
+literals_in (l ∷ ls) = cond (nat_abs l == 0) (literals_in ls) (literals_in ls + 1)
+
+-- each number is a 0 or a literal of the header's variables, and the limits have room for the
+-- clauses and for the literals
 pub record HasRoom (w : Below) (ls : List ℤ) : Type 0 where
   pub named : All (λ l. nat_abs l ≤ w.variables) ls
-  pub clauses : length w.clauses + length ls ≤ most_clauses
-  pub literals : literals_of w + length ls ≤ most_literals
+  pub clauses : length w.clauses + zeros_in ls ≤ most_clauses
+  pub literals : literals_of w + literals_in ls ≤ most_literals
 
 -- a line of number tokens says just these numbers
 abbrev pub ALineOfNumbersSaysThese : Type 0
@@ -99,6 +110,15 @@ abbrev pub ShowLinesRise : Type 0
 ShowLinesRise =
     (ls : List (List ℕ)) (j : Lines) → lines_say ls ≡ Ok j →
     AllPairs (λ k m. ListLine.line k < ListLine.line m) j.said.shows
+
+-- the cube lines and the open lines of a saved text are kept so too
+abbrev pub is_lower_line : SavedLine → SavedLine → Type 0
+is_lower_line k m = k.line < m.line
+
+abbrev pub SavedLinesRise : Type 0
+SavedLinesRise =
+    (ls : List (List ℕ)) (j : Lines) → lines_say ls ≡ Ok j →
+    AllPairs is_lower_line j.said.saved.cubes × AllPairs is_lower_line j.said.saved.pending
 
 -- ---- texts
 

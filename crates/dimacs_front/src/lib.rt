@@ -6,8 +6,8 @@
 //! was written. It rests on the tokens of DIMACS text, on sources of bytes and on the terms.
 #![tactic(auto)]
 
-mod comment_line;
-mod header_line;
+mod comment_place;
+mod header_place;
 mod input;
 #[cfg(test)]
 mod length_tests;
@@ -18,16 +18,17 @@ mod line_place;
 #[cfg(test)]
 mod made_text;
 mod read;
+pub mod refusal_laws;
 mod refused;
-mod saved_line;
 mod saved_lines;
-mod shown;
+mod saved_place;
+mod show_lines;
 pub mod text_laws;
 mod text_reader;
 #[cfg(test)]
 mod text_rows;
 mod text_state;
-mod under;
+mod under_lines;
 mod written;
 
 pub use input::Input;

@@ -4,10 +4,10 @@ ghost use Rattle.dimacs_front.specs.MachinePlaces.{above_begun, own_place, in_co
 ghost use Rattle.dimacs_front.specs.MachinePlaces.{place_closed, refusal_at};
 
 use crate::TextRefused;
-use crate::comment_line::CommentPlace;
-use crate::header_line::HeaderPlace;
-use crate::saved_line::SavedPlace;
+use crate::comment_place::CommentPlace;
+use crate::header_place::HeaderPlace;
 use crate::saved_lines::{SavedLines, SavedList};
+use crate::saved_place::SavedPlace;
 use dimacs_tokens::Seen;
 
 /// The place in a line, with what its tokens said so far.

@@ -24,7 +24,8 @@ pub fn read_subject<S: Source>(alloc: Global, source: &mut S) -> Result<Input, R
 
     ensures sizes { IfOk result IsWithinLimits }
 
-    // What a saved text has besides is over the same variables, within the given literals.
+    // What a saved text has besides is over the same variables, within the given literals, and its
+    // prefixes are few enough to be numbered.
     ensures saved { IfOk result (λ input.
         IsSavedOf input.subject.shown input.subject.under input.saved) }
 {

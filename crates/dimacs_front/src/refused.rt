@@ -68,8 +68,8 @@ pub enum TextRefused {
     /// A saved text has no end line.
     #[error("line {line}: a saved text has no end line")]
     SavedUnended { line: u64 },
-    /// The first line names a met text.
-    #[error("line {line}: texts of this form are not read yet")]
+    /// The first line names a met text, which this reader does not read.
+    #[error("line {line}: met texts are not read")]
     NotBuilt { line: u64 },
 }
 

@@ -1,5 +1,5 @@
 use super::*;
-use crate::text_rows::other_row;
+use crate::text_rows::{answer, other_row};
 use fault_io::{BytesIn, Failed, Source};
 use std::alloc::{AllocError, Global};
 use std::test::Fail;
@@ -217,6 +217,10 @@ c allsat saved 1|p cnf 2 1|1 2 0|c p cube 1 0|c p open -1 0|c p end \
 c allsat saved 1|c p end|p cnf 3 0|c p ended 1|%|c p cube 1 0|c p end => 3 1 2 3 saved
 c allsat saved 1|c p cube 01 -0002 0|p cnf 3 1|1|c p end|2 0 \
 => 3 1 2 3 clauses 1 2 0 saved cubes 1 -2 0
+c allsat saved 2|p cnf 3 4|1 2 3 0|1 -2 -3 0|-1 2 -3 0|-1 -2 3 0|c p show 1 2 3 0|\
+c p under -1 0|c p cube -1 -2 3 0|c p open -1 2 0|c p end| \
+=> 3 1 2 3 under -1 0 clauses 1 2 3 0 1 -2 -3 0 -1 2 -3 0 -1 -2 3 0 \
+saved cubes -1 -2 3 0 open -1 2 0
 c allsat saved 2|c p cube -1 3 0|p cnf 3 0|c p end|c p under -1 0|c p show 1 3 0 \
 => 3 1 3 under -1 0 saved cubes -1 3 0";
     assert_eq!(rt; other_row(rt.alloc(), rows)?, None);
@@ -269,19 +273,69 @@ p cnf 1 0| %x 1|1 0| => 1 1
     Ok(())
 }
 
-/// The one without its last byte is: a last line needs no byte 10.
+const SAVED: &[u8] = b"c allsat saved 2\np cnf 3 2\n1 2 0\n-3 0\nc p show 1 2 0\n\
+    c p under -1 0\nc p cube -1 2 0\nc p open -1 -2 0\nc p end\n";
+
+/// The answers to the fronts of the saved text, each from this many bytes on.
+const FRONTS: [(usize, &str); 26] = [
+    (0, "NoHeader 1"),
+    (14, "SavedBad 1"),
+    (16, "NoHeader 1"),
+    (18, "BadHeader 2"),
+    (26, "SavedUnended 2"),
+    (28, "Unfinished 3"),
+    (32, "SavedUnended 3"),
+    (34, "BadNumber 4"),
+    (35, "Unfinished 4"),
+    (37, "SavedUnended 4"),
+    (39, "SavedUnended 5"),
+    (46, "ShowUnended 5"),
+    (52, "SavedUnended 5"),
+    (54, "SavedUnended 6"),
+    (62, "UnderUnended 6"),
+    (64, "UnderBad 6"),
+    (65, "UnderUnended 6"),
+    (67, "SavedUnended 6"),
+    (69, "SavedUnended 7"),
+    (76, "SavedBad 7"),
+    (83, "SavedUnended 7"),
+    (85, "SavedUnended 8"),
+    (92, "SavedBad 8"),
+    (100, "SavedUnended 8"),
+    (102, "SavedUnended 9"),
+    (
+        108,
+        "3 1 2 under -1 0 clauses 1 2 0 -3 0 saved cubes -1 2 0 open -1 -2 0",
+    ),
+];
+
+/// The answer to the front of so many bytes.
+fn front_answer(count: usize) -> &'static str {
+    let mut answer = "";
+    for (first, said) in FRONTS {
+        if first <= count {
+            answer = said;
+        }
+    }
+    answer
+}
+
+/// A last line needs no byte 10, so the front without it is accepted; each shorter one is refused
+/// by name and line.
 #[test]
 fn no_front_of_a_saved_text_is_accepted(rt: HostRuntime) -> Result<(), Fail> {
     let alloc = rt.alloc();
-    let text = b"c allsat saved 2\np cnf 2 1\n1 2 0\nc p show 1 2 0\nc p cube 1 0\nc p end\n";
-    for count in 0..text.len() {
-        let accepted = read(alloc, &text[..count], 7, &[])?.is_ok();
+    for count in 0..SAVED.len() {
         assert_eq!(rt;
-            accepted,
-            count.saturating_add(1) == text.len(),
+            answer(alloc, &SAVED[..count], 7)?.as_str(),
+            front_answer(count),
             "at {count}"
         );
     }
+    assert_eq!(rt;
+        answer(alloc, SAVED, 7)?.as_str(),
+        front_answer(SAVED.len())
+    );
     Ok(())
 }
 

@@ -4,7 +4,8 @@ ghost use Rattle.dimacs_front.specs.TextLaws.{ALineOfNumbersSaysThese, TheFirstR
 ghost use Rattle.dimacs_front.specs.TextLaws.{AShowLineShowsItsVariables, ShowLinesAreRefused};
 ghost use Rattle.dimacs_front.specs.TextLaws.{ShowLinesRise, ALineWithoutTokensChangesNothing};
 ghost use Rattle.dimacs_front.specs.TextLaws.{TheFormulaEndsAtAPercent, TheLowestRefusedLineCounts};
-ghost use Rattle.dimacs_front.specs.TextLaws.{FewVariablesAreKept};
+ghost use Rattle.dimacs_front.specs.TextLaws.{FewVariablesAreKept, SavedLinesRise};
+ghost use Rattle.dimacs_front.specs.SavedLaws.{SavedTextReadsBack};
 
 /// A line of number tokens below the header says just these numbers, where the limits have room for
 /// them.
@@ -34,6 +35,11 @@ pub fn show_lines_rise()
     ensures { ShowLinesRise }
 {}
 
+/// The cube lines and the open lines of a saved text are kept with rising numbers.
+pub fn saved_lines_rise()
+    ensures { SavedLinesRise }
+{}
+
 /// A line without tokens changes nothing.
 pub fn a_line_without_tokens_changes_nothing()
     ensures { ALineWithoutTokensChangesNothing }
@@ -53,4 +59,10 @@ pub fn the_lowest_refused_line_counts()
 /// However long a text is, no more variables of show lines are kept than `MOST_VARIABLES`.
 pub fn few_variables_are_kept()
     ensures { FewVariablesAreKept }
+{}
+
+/// A saved text within the limit of bytes says the subject, the cubes and the prefixes that were
+/// saved.
+pub fn a_saved_text_reads_back()
+    ensures { SavedTextReadsBack }
 {}

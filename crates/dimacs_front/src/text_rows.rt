@@ -56,7 +56,7 @@ fn accepted(alloc: Global, input: &Input) -> Result<String, AllocError> {
 
 /// What the text gives, read by so many bytes at a call: the name and the line of its refusal, for
 /// a number of clauses that is not the header's both numbers, or its input.
-fn answer(alloc: Global, text: &[u8], step: usize) -> Result<String, AllocError> {
+pub(crate) fn answer(alloc: Global, text: &[u8], step: usize) -> Result<String, AllocError> {
     match read(alloc, text, step, &[])? {
         Ok(input) => accepted(alloc, &input),
         Err(ReadRefused::Text(TextRefused::ClauseCount { line, said, found })) => {

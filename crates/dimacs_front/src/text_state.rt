@@ -8,13 +8,13 @@ ghost use Rattle.dimacs_front.specs.TextEnds.{first_misplaced, lowest_outside};
 ghost use Rattle.dimacs_front.specs.MachineEnd.{end_refusal, with_saved_lines, with_under, end_of};
 ghost use Rattle.dimacs_front.specs.Pieces.{Answered};
 
-use crate::comment_line::CommentPlace;
-use crate::header_line::{HeaderPlace, natural};
+use crate::comment_place::CommentPlace;
+use crate::header_place::{HeaderPlace, natural};
 use crate::line_place::LinePlace;
-use crate::saved_line::SavedPlace;
 use crate::saved_lines::{RisingLits, SavedLines};
-use crate::shown::ShowLines;
-use crate::under::UnderLines;
+use crate::saved_place::SavedPlace;
+use crate::show_lines::ShowLines;
+use crate::under_lines::UnderLines;
 use crate::written::Written;
 use crate::{Input, MOST_CLAUSES, MOST_VARIABLES, ReadRefused, TextRefused};
 use dimacs_tokens::Seen;

@@ -1,17 +1,19 @@
 -- Numbers that are written in decimal are read back, leading zeros change nothing, and words are told by their head.
-use Rattle.std.proofs.Common.{◌≡◌, ℕ, zero, suc, ◌^◌, ◌<◌, min, Bool, true, false, ◌&&◌, eqb, List, [], ◌∷◌, length, take, pos, negsuc, sym, refl, ap, ◌∙◌, arith}
-use Rattle.std.specs.Fmt.{decimal}
+use Rattle.std.proofs.Common.{◌≡◌, ℕ, zero, suc, ◌^◌, ◌<◌, min, Bool, true, false, ◌&&◌, eqb, List, [], ◌∷◌, length, take, ℤ, pos, negsuc, nat_abs, sym, refl, ap, ◌∙◌, arith}
+use Rattle.std.specs.Fmt.{decimal, signed_decimal}
+use Rattle.std.specs.List.{list_all}
 use Rattle.std.specs.Str.{all_ascii_digits, bytes_eq}
 use Rattle.std.specs.Str.Parse.{digits_value}
 use Rattle.std.specs.Char.{is_ascii_digit}
-use Rattle.std.proofs.lemmas.Bool.{cond-true, cond-false, and_parts}
+use Rattle.std.proofs.lemmas.Bool.{cond-true, cond-false, and_parts, and_from}
 use Rattle.std.proofs.lemmas.Bool.Decides.{nat_tests}
 use Rattle.std.proofs.lemmas.Str.Parse.{IsNumeralModel, numerals_by_value, tells_all_ascii_digits}
 use Rattle.std.proofs.lemmas.Fmt.{digits_decimal, digits_value-decimal, decimal_nonempty}
 use Rattle.dimacs_tokens.specs.declared.numerals.Numeral.TheVariants.{Whole}
 use Rattle.dimacs_tokens.specs.Numbers.{size_cap, digits_say, numeral, value_of}
 use Rattle.dimacs_tokens.specs.Seen.{seen_token}
-use Rattle.dimacs_tokens.specs.Laws.{WrittenNumbersHaveTheirValue, LeadingZerosChangeNothing, WordsAreToldByHead}
+use Rattle.dimacs_tokens.specs.Bytes.{is_white}
+use Rattle.dimacs_tokens.specs.Laws.{is_token_byte, is_token, WrittenNumbersHaveTheirValue, LeadingZerosChangeNothing, WordsAreToldByHead}
 
 own : IsNumeralModel (λ ds. all_ascii_digits ds ≡ true) (digits_value 10)
 own = numerals_by_value _ tells_all_ascii_digits
@@ -47,6 +49,33 @@ written_value (pos n) small =
 written_value (negsuc n) small =
     let fits : suc n < 2 ^ 64 = omega arith in
     ap value_of (numeral-minus (decimal (suc n)) (decimal_nonempty (suc n) fits) ∙ digits_say-decimal true (suc n) small)
+
+-- digits are no white space, and end no line
+digit_is_token_byte : (b : ℕ) → is_ascii_digit b ≡ true → is_token_byte b ≡ true
+unfolding is_white
+digit_is_token_byte b h = grind (arith, nat_tests)
+
+digits_are_token_bytes : (ds : List ℕ) → all_ascii_digits ds ≡ true → list_all is_token_byte ds ≡ true
+digits_are_token_bytes [] h = refl
+digits_are_token_bytes (b ∷ bs) h =
+    let k = and_parts (is_ascii_digit b) (all_ascii_digits bs) h in
+    and_from (is_token_byte b) (list_all is_token_byte bs) (digit_is_token_byte b k.0) (digits_are_token_bytes bs k.1)
+
+some_bytes : (ds : List ℕ) → 0 < length ds → list_all is_token_byte ds ≡ true → is_token ds ≡ true
+some_bytes [] nonempty h = absurd (omega arith)
+some_bytes (b ∷ bs) nonempty h = h
+
+pub decimal_is_token : (n : ℕ) → n < 2 ^ 64 → is_token (decimal n) ≡ true
+decimal_is_token n fits =
+    some_bytes (decimal n) (decimal_nonempty n fits) (digits_are_token_bytes (decimal n) (digits_decimal own n fits))
+
+-- a written number is a token
+pub written_is_token : (l : ℤ) → nat_abs l < size_cap → is_token (signed_decimal l) ≡ true
+unfolding is_white
+written_is_token (pos n) small = decimal_is_token n (omega arith)
+written_is_token (negsuc n) small =
+    let fits : suc n < 2 ^ 64 = omega arith in
+    digits_are_token_bytes (decimal (suc n)) (digits_decimal own (suc n) fits)
 
 pub leading_zeros : LeadingZerosChangeNothing
 unfolding numeral digits_say

@@ -9,7 +9,7 @@ use Rattle.dimacs_tokens.specs.Bytes.{is_newline, is_white}
 use Rattle.dimacs_tokens.specs.Cuts.{Cut, with_part, token_byte, nothing_cut, cut_tokens, lines, tokens}
 use Rattle.dimacs_tokens.specs.Seen.{is_nil}
 use Rattle.dimacs_tokens.specs.Texts.{is_line}
-use Rattle.dimacs_tokens.specs.Laws.{is_token_byte, is_token, OnlyTokensAreCut, NoByteIsLost, PartedTokensAreCut}
+use Rattle.dimacs_tokens.specs.Laws.{is_token_byte, is_token, OnlyTokensAreCut, NoByteIsLost, PartedTokensAreCut, JoinedTokensAreCut}
 use Rattle.dimacs_tokens.proofs.LineLaws.{IsClean, list_all_push, lines_are_lines}
 
 abbrev cut_at : List (List ℕ) → List ℕ → Cut
@@ -118,3 +118,13 @@ pub parted_tokens : PartedTokensAreCut
 unfolding cut_tokens
 parted_tokens ts gap h some g =
     ap (λ c. with_part c.whole c.open_part) (fold-tokens [] ts gap h some g)
+
+pub joined_tokens : JoinedTokensAreCut
+unfolding cut_tokens
+joined_tokens ts last gap h e some g =
+    let plain = (and_parts (not (is_nil last)) (list_all is_token_byte last) e).1 in
+    ap (λ c. with_part c.whole c.open_part)
+    (fold-append token_byte nothing_cut (flat_map (λ t. t ++ gap) ts) last
+    ∙ ap (λ c. fold token_byte c last) (fold-tokens [] ts gap h some g)
+    ∙ fold-plain ts [] last plain)
+    ∙ with_token ts last e

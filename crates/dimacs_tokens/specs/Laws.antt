@@ -43,6 +43,13 @@ PartedTokensAreCut =
     (ts : List (List ℕ)) (gap : List ℕ) → list_all is_token ts ≡ true → is_nil gap ≡ false →
     list_all is_white gap ≡ true → tokens (flat_map (λ t. t ++ gap) ts) ≡ ts
 
+-- and so are tokens with white space between them, without any behind the last
+abbrev pub JoinedTokensAreCut : Type 0
+JoinedTokensAreCut =
+    (ts : List (List ℕ)) (last gap : List ℕ) → list_all is_token ts ≡ true →
+    is_token last ≡ true → is_nil gap ≡ false → list_all is_white gap ≡ true →
+    tokens (flat_map (λ t. t ++ gap) ts ++ last) ≡ ts ++ last ∷ []
+
 -- the token that writes a number has this value
 abbrev pub WrittenNumbersHaveTheirValue : Type 0
 WrittenNumbersHaveTheirValue =

@@ -1,6 +1,6 @@
 //! What holds of lines, tokens and numbers, said without the way in which they are cut: each
 //! function is the statement that it ensures, and does nothing.
-ghost use Rattle.dimacs_tokens.specs.Laws.{EndedLinesAreLines, ALastLineNeedsNoEnd, OnlyTokensAreCut, NoByteIsLost, PartedTokensAreCut, WrittenNumbersHaveTheirValue, LeadingZerosChangeNothing, WordsAreToldByHead};
+ghost use Rattle.dimacs_tokens.specs.Laws.{EndedLinesAreLines, ALastLineNeedsNoEnd, OnlyTokensAreCut, NoByteIsLost, PartedTokensAreCut, JoinedTokensAreCut, WrittenNumbersHaveTheirValue, LeadingZerosChangeNothing, WordsAreToldByHead};
 
 /// The lines of a text that ends each line by byte 10 are just these lines.
 pub fn ended_lines_are_lines()
@@ -25,6 +25,11 @@ pub fn no_byte_is_lost()
 /// Tokens that are written with white space behind each are read back.
 pub fn parted_tokens_are_cut()
     ensures { PartedTokensAreCut }
+{}
+
+/// Tokens that are written with white space between them are read back.
+pub fn joined_tokens_are_cut()
+    ensures { JoinedTokensAreCut }
 {}
 
 /// A number that is written in decimal is read back.

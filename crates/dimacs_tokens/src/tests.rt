@@ -75,6 +75,7 @@ fn the_laws_are_called(rt: HostRuntime) {
     laws::ended_lines_are_lines();
     laws::only_tokens_are_cut();
     laws::no_byte_is_lost();
+    laws::joined_tokens_are_cut();
     laws::written_numbers_have_their_value();
     laws::leading_zeros_change_nothing();
     laws::words_are_told_by_head();

@@ -5,8 +5,8 @@ ghost use Rattle.dimacs_front.specs.Machine.{saved_eaten, listed_eaten, list_end
 
 use super::TextState;
 use crate::line_place::LinePlace;
-use crate::saved_line::SavedPlace;
 use crate::saved_lines::SavedList;
+use crate::saved_place::SavedPlace;
 use crate::{MOST_VARIABLES, TextRefused};
 use dimacs_tokens::Seen;
 use std::alloc::AllocError;

@@ -1,5 +1,4 @@
-use Rattle.std.proofs.Common.{ap, codes}
-use Rattle.std.specs.Fmt.{decimal}
+use Rattle.std.proofs.Common.{codes}
 use Rattle.cube_text.proofs.Handing.{Hands-more, Hands-along}
 use Rattle.checkpoint.proofs.SavedLines.{variables_more, variables_end}
 use Rattle.checkpoint.proofs.saved_text.put_shown.Goals as goal
