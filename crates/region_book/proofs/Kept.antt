@@ -31,12 +31,12 @@ use Rattle.region_book.proofs.Found.{Splits, found_splits, same_prefixes}
 
 -- ---- parts of lists
 
-All_front : {X : Type 0} (P : X → Type 0) (xs ys : List X) → All P (xs ++ ys) → All P xs
+pub All_front : {X : Type 0} (P : X → Type 0) (xs ys : List X) → All P (xs ++ ys) → All P xs
 All_front P xs ys all k d inside =
     let long = length-append xs ys in
     subst P (get_or_append_left xs ys d k inside) (all k d (omega arith))
 
-All_back : {X : Type 0} (P : X → Type 0) (xs ys : List X) → All P (xs ++ ys) → All P ys
+pub All_back : {X : Type 0} (P : X → Type 0) (xs ys : List X) → All P (xs ++ ys) → All P ys
 All_back P xs ys all k d inside =
     let long = length-append xs ys in
     subst P (get_or-append-add xs ys k d) (all (length xs + k) d (omega arith))

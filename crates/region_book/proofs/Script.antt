@@ -1,5 +1,5 @@
 -- The script of two passes.
-use Rattle.std.proofs.Common.{◌≡◌, ◌≢◌, ℕ, zero, suc, ◌<◌, ◌≤◌, Bool, true, false, ◌&&◌, ◌||◌, not, List, [], ◌∷◌, length, get_or, map, ℤ, pos, neg_ℤ, None, Some, refl, ap, arith, lit<, lit≤}
+use Rattle.std.proofs.Common.{◌≡◌, ◌≢◌, ℕ, zero, suc, ◌<◌, ◌≤◌, Bool, true, false, ◌&&◌, ◌||◌, not, List, [], ◌∷◌, length, get_or, map, ℤ, pos, neg_ℤ, None, Some, refl, ap, subst, arith, lit<, lit≤}
 use Rattle.std.specs.List.{All, list_any}
 use Rattle.std.proofs.lemmas.Bool.{both_ways, and_parts, or_from, not_from_true}
 use Rattle.std.proofs.lemmas.List.Elements.{All-nil, All-cons}
@@ -11,8 +11,9 @@ use Rattle.sat_terms.specs.Cubes.{IsCube, apart, within}
 use Rattle.prefix_jobs.specs.Outcomes.{FitsPrefix}
 use Rattle.region_book.specs.declared.pending.Pending.{Pending}
 use Rattle.region_book.specs.Partition.{IsPartition}
-use Rattle.region_book.specs.Starts.{CanBegin}
-use Rattle.region_book.specs.Examples.{script_formula, script_shown, first_found, left_over, second_found, first_outcome, second_outcome, script_subject, HasScript}
+use Rattle.region_book.specs.Starts.{AreSavedLines, CanBegin}
+use Rattle.sat_terms.specs.Subjects.{IsSubject}
+use Rattle.region_book.specs.Examples.{script_formula, script_shown, first_found, left_over, second_found, first_outcome, second_outcome, script_subject, split_saved, HasScript}
 
 -- ---- what is good
 
@@ -123,16 +124,11 @@ begins = record {
   inside = All-cons (Inside []) [] [] refl (All-nil (Inside []));
 }
 
-begins_so : CanBegin script_subject None 2
-begins_so = record {
-  subject_is = record {
-    formula = record { variables = lit≤ tt; clauses = lit< tt; literals = lit< tt; named = named };
-    shown = record { rising = rising; named = shown_named };
-    under = record { rising = refl; over = refl };
-  };
-  saved_is = λ lines e. (let bad : None ≡ Some lines = e in absurd cc);
-  some = lit≤ tt;
-  most = lit≤ tt;
+script_is_a_subject : IsSubject 2 script_formula script_shown []
+script_is_a_subject = record {
+  formula = record { variables = lit≤ tt; clauses = lit< tt; literals = lit< tt; named = named };
+  shown = record { rising = rising; named = shown_named };
+  under = record { rising = refl; over = refl };
 }
   where
     clause_named : (l m : ℤ) → IsLiteralOf 2 l → IsLiteralOf 2 m → All (IsLiteralOf 2) (l ∷ m ∷ [])
@@ -150,6 +146,32 @@ begins_so = record {
     shown_named : All (λ v. (0 < v) × (v ≤ 2)) script_shown
     shown_named = All-cons (λ v. (0 < v) × (v ≤ 2)) 1 (2 ∷ []) (lit< tt, lit≤ tt) (All-cons (λ v. (0 < v) × (v ≤ 2)) 2 [] (lit< tt, lit≤ tt) (All-nil (λ v. (0 < v) × (v ≤ 2))))
 
+begins_so : CanBegin script_subject None 2
+begins_so = record {
+  subject_is = script_is_a_subject;
+  saved_is = λ lines e. (let bad : None ≡ Some lines = e in absurd cc);
+  some = lit≤ tt;
+  most = lit≤ tt;
+}
+
+begins_saved : CanBegin script_subject (Some split_saved) 1
+begins_saved = record {
+  subject_is = script_is_a_subject;
+  saved_is = λ lines e. (let given : Some split_saved ≡ Some lines = e in let same : split_saved ≡ lines = cc in subst (AreSavedLines script_shown) same split_lines);
+  some = lit≤ tt;
+  most = lit≤ tt;
+}
+  where
+    split_lines : AreSavedLines script_shown split_saved
+    split_lines = record {
+      cubes = All-nil (IsCube script_shown);
+      pending =
+          All-cons (IsCube script_shown) (pos 1 ∷ pos 2 ∷ []) ((pos 1 ∷ neg_ℤ (pos 2) ∷ []) ∷ (neg_ℤ (pos 1) ∷ []) ∷ []) (record { rising = refl; over = refl })
+          (All-cons (IsCube script_shown) (pos 1 ∷ neg_ℤ (pos 2) ∷ []) ((neg_ℤ (pos 1) ∷ []) ∷ []) (record { rising = refl; over = refl })
+          (All-cons (IsCube script_shown) (neg_ℤ (pos 1) ∷ []) [] (record { rising = refl; over = refl }) (All-nil (IsCube script_shown))));
+      few = lit< tt;
+    }
+
 pub script_is_legal : HasScript
 script_is_legal = record {
   begins = begins;
@@ -159,5 +181,6 @@ script_is_legal = record {
   ended = refl;
   taken_twice = λ some. some refl;
   begins_so = begins_so;
+  begins_saved = begins_saved;
   not_its_own = λ some. some refl;
 }

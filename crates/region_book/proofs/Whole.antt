@@ -20,17 +20,18 @@ use Rattle.region_book.specs.Partition.{IsPartition}
 abbrev pub outcome_of_all : List (List ℤ) → Outcome
 outcome_of_all published = record { cubes = published; rest = []; kept = None; leaves = 0 }
 
-module _ (f : List (List ℤ)) (p : List ℕ) (u : List ℤ) (published : List (List ℤ)) (cube : IsCube p u) (part : IsPartition f p u published []) where
-  inside_given : (c : List ℤ) → IsCube p c → ((a : List Bool) → length a ≡ length p → lies_in p a c ≡ true → lies_in p a u ≡ true) → within c u ≡ true
-  inside_given c shape inner =
-      within-from_inside c u shape.rising (named_above 0 u cube.rising)
-      (λ t held. sym (lies_in-map t p u cube.over) ∙ inner (map t p) (length-map p t) (lies_in-map t p c shape.over ∙ held))
+-- a cube whose assignments are all in the given literals is within these
+pub inside_given : (p : List ℕ) (u : List ℤ) → IsCube p u → (c : List ℤ) → IsCube p c → ((a : List Bool) → length a ≡ length p → lies_in p a c ≡ true → lies_in p a u ≡ true) → within c u ≡ true
+inside_given p u cube c shape inner =
+    within-from_inside c u shape.rising (named_above 0 u cube.rising)
+    (λ t held. sym (lies_in-map t p u cube.over) ∙ inner (map t p) (length-map p t) (lies_in-map t p c shape.over ∙ held))
 
+module _ (f : List (List ℤ)) (p : List ℕ) (u : List ℤ) (published : List (List ℤ)) (cube : IsCube p u) (part : IsPartition f p u published []) where
   pub all_fits : FitsPrefix f p u (outcome_of_all published)
   all_fits = record {
     over = part.over;
     disjoint = part.disjoint;
-    inside = λ k d place. inside_given (get_or (published ++ []) k d) (part.over k d place) (λ a long lies. (part.sound a long (some_published a (published ++ []) k d place lies refl)).given);
+    inside = λ k d place. inside_given p u cube (get_or (published ++ []) k d) (part.over k d place) (λ a long lies. (part.sound a long (some_published a (published ++ []) k d place lies refl)).given);
     good = λ a long some. (part.sound a long some).good;
     cover = λ a long lies good. part.cover a long (record { given = lies; good = good });
     weighs = omega arith;

@@ -7,6 +7,7 @@ use Rattle.sat_terms.specs.declared.subject.Subject.{Subject}
 use Rattle.checkpoint.specs.declared.saved.Saved.{Saved}
 use Rattle.region_book.specs.declared.pages.Pages.{Pages}
 use Rattle.region_book.specs.declared.pending.Pending.{Pending}
+use Rattle.region_book.specs.Found.{named_cubes}
 use Rattle.region_book.specs.Machine.{AreLegal}
 use Rattle.region_book.specs.Starts.{start_of}
 use Rattle.region_book.specs.Books.{BookView, book_view, state_of}
@@ -20,7 +21,7 @@ pub record ArrangedView : Type 0 where
 abbrev pub arranged_view : Subject → Option Saved → ℕ → Pages → ArrangedView
 arranged_view subject saved passes pages = record {
   book = book_view subject saved passes pages;
-  published = pages.published.items;
+  published = named_cubes saved pages.journal.items pages.published.items;
   pending = pages.pending.items;
 }
 

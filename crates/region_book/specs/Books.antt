@@ -14,6 +14,7 @@ use Rattle.region_book.specs.declared.event.Event.{Event}
 use Rattle.region_book.specs.declared.event.Event.TheVariants.{Take, Report}
 use Rattle.region_book.specs.declared.pages.Pages.{Pages}
 use Rattle.region_book.specs.declared.pending.Pending.{Pending}
+use Rattle.region_book.specs.Found.{AreEntered}
 use Rattle.region_book.specs.Lowest.{IsLowestOf}
 use Rattle.region_book.specs.Machine.{BookState, is_free, steps_from, AreLegal}
 use Rattle.region_book.specs.Pages.{state_of_pages, HasReleaseRoom, prefix_of, report_answer}
@@ -50,7 +51,8 @@ with_event e b = record b { journal = b.journal ++ e ∷ [] }
 pub record IsBook (subject : Subject) (saved : Option Saved) (passes : ℕ)
     (pages : Pages) : Type 0 where
   pub begins : CanBegin subject saved passes
-  pub state : replay subject saved pages.journal.items ≡ state_of_pages pages
+  pub state : replay subject saved pages.journal.items ≡ state_of_pages saved pages
+  pub entered : AreEntered (length pages.journal.items) pages.published.items
   pub legal : AreLegal subject.formula.clauses subject.shown 1 pages.journal.items
       (start_of subject saved)
   pub room : HasReleaseRoom pages

@@ -6,6 +6,7 @@ use Rattle.region_book.specs.declared.event.Event.{Event}
 use Rattle.region_book.specs.declared.event.Event.TheVariants.{Take, Report, Release}
 use Rattle.region_book.specs.Machine.{BookState, steps_from, start_from, IsLegalAt, AreLegal}
 use Rattle.sat_terms.specs.declared.subject.Subject.{Subject}
+use Rattle.checkpoint.specs.declared.saved.Saved.{Saved}
 use Rattle.region_book.specs.Books.{BookView}
 use Rattle.region_book.specs.Partition.{IsPartition}
 use Rattle.region_book.specs.Starts.{CanBegin}
@@ -63,6 +64,13 @@ script_subject = record {
   under = [];
 }
 
+-- Prefixes that may have been saved of it, not in order.
+abbrev pub split_saved : Saved
+split_saved = record {
+  cubes = [];
+  pending = (pos 1 ∷ pos 2 ∷ []) ∷ (pos 1 ∷ neg_ℤ (pos 2) ∷ []) ∷ (neg_ℤ (pos 1) ∷ []) ∷ [];
+}
+
 abbrev pub script_book : ℕ → BookView
 script_book k = record {
   subject = script_subject;
@@ -94,5 +102,6 @@ pub record HasScript : Type 0 where
   pub taken_twice : IsLegalAt script_formula script_shown (Take 1 (script_number 0 0))
       (script_after 1) → ⊥
   pub begins_so : CanBegin script_subject None 2
+  pub begins_saved : CanBegin script_subject (Some split_saved) 1
   pub not_its_own : IsLegalAt script_formula script_shown (Release 1 (script_number 0 0))
       (script_after 1) → ⊥

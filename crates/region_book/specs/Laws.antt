@@ -1,5 +1,5 @@
 -- The laws of a book's events.
-use Rattle.std.specs.Prelude.{◌≡◌, ℕ, ◌+◌, ◌≤◌, nat_eq, List, [], filter, length, ℤ}
+use Rattle.std.specs.Prelude.{◌≡◌, ℕ, ◌+◌, ◌≤◌, ◌^◌, nat_eq, List, [], ◌∷◌, filter, length, ℤ, Option, Some, None}
 use Rattle.std.specs.List.{All}
 use Rattle.std.specs.List.Sorted.{IsSorted, IsPermutation}
 use Rattle.sat_terms.specs.Cubes.{IsCube}
@@ -11,6 +11,11 @@ use Rattle.region_book.specs.declared.event.Event.{Event}
 use Rattle.region_book.specs.declared.pending.Pending.{Pending}
 use Rattle.region_book.specs.Machine.{BookState, prefixes_of, has_number, held_by, steps_from, start_from, AreLegal, pass_of}
 use Rattle.region_book.specs.Partition.{IsPartition}
+use Rattle.region_book.specs.Starts.{start_of, CanBegin}
+use Rattle.region_book.specs.Books.{state_of}
+use Rattle.region_book.specs.Arranged.{ArrangedView, IsArranged}
+use Rattle.sat_terms.specs.declared.subject.Subject.{Subject}
+use Rattle.checkpoint.specs.declared.saved.Saved.{Saved}
 
 -- What the events made is a partition, and what was spent is paid for by what was pending.
 pub record KeepsPartition (f : List (List ℤ)) (p : List ℕ) (u : List ℤ)
@@ -18,6 +23,11 @@ pub record KeepsPartition (f : List (List ℤ)) (p : List ℕ) (u : List ℤ)
   pub partition : IsPartition f p u new.published (prefixes_of new.pending)
   pub paid : new.spent + weights (length p) (prefixes_of new.pending) ≤
       old.spent + weights (length p) (prefixes_of old.pending)
+
+-- The given literals as the one prefix are a partition, of which nothing is found yet.
+abbrev pub StartIsPartition : Type 0
+StartIsPartition =
+    (f : List (List ℤ)) (p : List ℕ) (u : List ℤ) → IsCube p u → IsPartition f p u [] (u ∷ [])
 
 -- Legal events make a partition of a partition.
 abbrev pub EventsKeepPartition : Type 0
@@ -50,3 +60,26 @@ abbrev pub NumbersAreDistinct : Type 0
 NumbersAreDistinct =
     (cubes prefixes : List (List ℤ)) (events : List Event) →
     AreNumbered (steps_from 1 events (start_from cubes prefixes)).pending (length events)
+
+-- The start is a partition: nothing was saved, or the saved lines are one.
+abbrev pub BeginsWhole : Subject → Option Saved → Type 0
+BeginsWhole s None = Unit {0}
+BeginsWhole s (Some saved) =
+    IsPartition s.formula.clauses s.shown s.under saved.cubes saved.pending
+
+-- The published cubes and the pending prefixes are a partition. The leaves spent, and all
+-- assignments that the prefixes hold, are no more than the shown variables have. Where nothing is
+-- pending, the published cubes are the right list.
+pub record IsWhole (s : Subject) (spent : ℕ) (published pending : List (List ℤ)) : Type 0 where
+  pub partition : IsPartition s.formula.clauses s.shown s.under published pending
+  pub paid : spent + weights (length s.shown) pending ≤ 2 ^ length s.shown
+  pub right : pending ≡ [] → IsRightList s.formula.clauses s.shown s.under published
+
+-- So is an arranged book of a start that is a partition.
+abbrev pub ArrangedIsWhole : Type 0
+ArrangedIsWhole =
+    (a : ArrangedView) → CanBegin a.book.subject a.book.saved a.book.passes → IsArranged a →
+    AreLegal a.book.subject.formula.clauses a.book.subject.shown 1 a.book.journal
+    (start_of a.book.subject a.book.saved) →
+    BeginsWhole a.book.subject a.book.saved →
+    IsWhole a.book.subject (state_of a.book).spent a.published (prefixes_of a.pending)

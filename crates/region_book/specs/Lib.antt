@@ -1,6 +1,7 @@
 pub mod Arranged
 pub mod Books
 pub mod Examples
+pub mod Found
 pub mod Laws
 pub mod Lowest
 pub mod Machine

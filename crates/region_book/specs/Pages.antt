@@ -9,16 +9,22 @@ use Rattle.region_book.specs.declared.answers.Reported.{Reported}
 use Rattle.region_book.specs.declared.event.Event.{Event}
 use Rattle.region_book.specs.declared.event.Event.TheVariants.{Take, Report}
 use Rattle.region_book.specs.declared.pages.Pages.{Pages}
-use Rattle.region_book.specs.declared.pages.Parts.{Parts}
 use Rattle.region_book.specs.declared.pending.Pending.{Pending}
+use Rattle.checkpoint.specs.declared.saved.Saved.{Saved}
+use Rattle.region_book.specs.Found.{brought_by, named_cubes, places_from}
 use Rattle.region_book.specs.Machine.{BookState, is_free, parts_of, step}
 
-abbrev pub state_of_pages : Pages → BookState
-state_of_pages x = record {
-  published = x.published.items;
+-- The machine's state, where these cubes are published.
+abbrev pub state_with : List (List ℤ) → Pages → BookState
+state_with cubes x = record {
+  published = cubes;
   pending = x.pending.items;
   spent = x.spent;
 }
+
+-- The cubes that stand at the places of the published ones.
+abbrev pub state_of_pages : Option Saved → Pages → BookState
+state_of_pages saved x = state_with (named_cubes saved x.journal.items x.published.items) x
 
 -- How many prefixes are held.
 abbrev pub held_count : List Pending → ℕ
@@ -36,13 +42,19 @@ HasEventRoom x =
 -- Nothing has changed but room.
 pub record IsSame (old new : Pages) : Type 0 where
   pub journal : new.journal.items ≡ old.journal.items
-  pub state : state_of_pages new ≡ state_of_pages old
+  pub published : new.published.items ≡ old.published.items
+  pub pending : new.pending.items ≡ old.pending.items
+  pub spent : new.spent ≡ old.spent
   pub room : HasReleaseRoom new
 
--- The event was entered at the next place of the journal, and did what it does.
+-- The event was entered at the next place of the journal, and did what it does: its cubes are
+-- published there.
 pub record Enters (e : Event) (old new : Pages) : Type 0 where
   pub journal : new.journal.items ≡ old.journal.items ++ e ∷ []
-  pub state : state_of_pages new ≡ step (suc (length old.journal.items)) e (state_of_pages old)
+  pub published : new.published.items ≡ old.published.items
+      ++ places_from (suc (length old.journal.items)) 0 (length (brought_by e))
+  pub state : (cubes : List (List ℤ)) → state_with (cubes ++ brought_by e) new
+      ≡ step (suc (length old.journal.items)) e (state_with cubes old)
   pub room : HasReleaseRoom new
 
 -- The prefix that was found, if one was.
@@ -56,12 +68,11 @@ TakesPrefix old new k n (Held c) =
     Enters (Take k n) old new × (prefix_of (find (is_free n) old.pending.items) ≡ Some c)
 TakesPrefix old new k n Gone = (new ≡ old) × (find (is_free n) old.pending.items ≡ None)
 
--- The parts are those of the outcome, and there is room for them and for the event.
-pub record IsPrepared (x : Pages) (k : ℕ) (o : Outcome) (parts : Parts) : Type 0 where
-  pub cubes : parts.cubes.items ≡ o.cubes
-  pub pending : parts.pending.items ≡ parts_of (suc (length x.journal.items)) k o
+-- The parts are those of the outcome, and there is room for them, its cubes and the event.
+pub record IsPrepared (x : Pages) (k : ℕ) (o : Outcome) (parts : List Pending) : Type 0 where
+  pub pending : parts ≡ parts_of (suc (length x.journal.items)) k o
   pub cubes_room : length x.published.items + length o.cubes ≤ vec_capacity x.published
-  pub pending_room : length x.pending.items + length parts.pending.items ≤ vec_capacity x.pending
+  pub pending_room : length x.pending.items + length parts ≤ vec_capacity x.pending
   pub room : HasEventRoom x
 
 -- What the report of the outcome o at the place j answers, where so many leaves were spent.

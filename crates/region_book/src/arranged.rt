@@ -2,6 +2,7 @@
 ghost use Rattle.std.specs.Prelude.{◌≡◌};
 ghost use Rattle.std.specs.List.Sorted.{IsPermutation, IsSorted};
 ghost use Rattle.sat_terms.specs.CubeOrder.{cube_order};
+ghost use Rattle.region_book.specs.Found.{found_order};
 ghost use Rattle.region_book.specs.Machine.{AreLegal};
 ghost use Rattle.region_book.specs.Starts.{start_of};
 ghost use Rattle.region_book.specs.Books.{state_of};
@@ -9,10 +10,13 @@ ghost use Rattle.region_book.specs.Arranged.{IsArranged, prefix_order};
 
 use crate::book::Book;
 use crate::event::Event;
+use crate::found_at::{FoundAt, cube_at};
 use crate::pages::Pages;
 use crate::pending::Pending;
-use checkpoint::Saved;
-use sat_terms::{Cube, CubeList, Subject, compare};
+use checkpoint::{Saved, SavedView};
+use cube_text::shared_front;
+use sat_terms::{CubeList, Subject, compare};
+use std::cmp::Ordering;
 use std::marker::Model;
 
 /// A book that takes no more events. Its published cubes and its pending prefixes are those that
@@ -41,6 +45,8 @@ impl Book {
     pub fn arrange(self) -> ArrangedBook
         ensures book { result.book ≡ self }
         ensures arranged { IsArranged result }
+        ensures legal { AreLegal self.subject.formula.clauses self.subject.shown 1 self.journal
+            (start_of self.subject self.saved) }
     {
         let Book {
             alloc: _,
@@ -49,7 +55,7 @@ impl Book {
             passes,
             mut pages,
         } = self;
-        sort_cubes(&mut pages.published);
+        sort_found(&mut pages.published, &saved, &pages.journal);
         sort_pending(&mut pages.pending);
         ArrangedBook {
             subject,
@@ -101,16 +107,38 @@ impl CubeList for ArrangedBook {
     }
 
     fn at(&self, i: usize) -> &[i32] {
-        self.pages.published[i].lits()
+        cube_at(&self.saved, &self.pages.journal, self.pages.published[i])
     }
 }
 
-/// Sorts cubes. Equal ones stay as many as they were.
-fn sort_cubes(cubes: &mut Vec<Cube>)
-    ensures same { IsPermutation cubes.old.items cubes.new.items }
-    ensures sorted { IsSorted cube_order cubes.new.items }
+impl SavedView for ArrangedBook {
+    ghost use Rattle.region_book.specs.Machine.{prefixes_of};
+
+    ghost subject_of = { λ a. a.book.subject };
+
+    ghost pending = { λ a. prefixes_of a.pending };
+
+    fn subject(&self) -> &Subject {
+        &self.subject
+    }
+
+    fn pending_count(&self) -> usize {
+        self.pages.pending.len()
+    }
+
+    fn pending_at(&mut self, i: usize) -> &[i32] {
+        self.pages.pending[i].prefix.lits()
+    }
+}
+
+/// Sorts places by the cubes that stand there. Equal ones stay as many as they were.
+fn sort_found(found: &mut Vec<FoundAt>, saved: &Option<Saved>, journal: &[Event])
+    ensures same { IsPermutation found.old.items found.new.items }
+    ensures sorted { IsSorted (found_order saved.now journal.now) found.new.items }
 {
-    cubes.sort_unstable_by(|c, d| compare(c.lits(), d.lits()));
+    found.sort_unstable_by(|a, b| {
+        compare_past_front(cube_at(saved, journal, *a), cube_at(saved, journal, *b))
+    });
 }
 
 /// Sorts prefixes by their literals. Equal ones stay as many as they were.
@@ -118,5 +146,14 @@ fn sort_pending(pending: &mut Vec<Pending>)
     ensures same { IsPermutation pending.old.items pending.new.items }
     ensures sorted { IsSorted prefix_order pending.new.items }
 {
-    pending.sort_unstable_by(|q, r| compare(q.prefix.lits(), r.prefix.lits()));
+    pending.sort_unstable_by(|q, r| compare_past_front(q.prefix.lits(), r.prefix.lits()));
+}
+
+/// Compares two cubes as `compare` does. What both begin with, which is most of two neighbours in
+/// the order, takes one look a literal.
+fn compare_past_front(c: &[i32], d: &[i32]) -> Ordering
+    ensures { result ≡ cube_order c.now d.now }
+{
+    let shared = shared_front(c, d);
+    compare(&c[shared..], &d[shared..])
 }

@@ -1,4 +1,4 @@
-//! Copies of cubes and prefixes, in memory of their own.
+//! Copies of prefixes, in memory of their own.
 ghost use Rattle.std.specs.Prelude.{◌≡◌, ◌+◌, ◌-◌, ◌<◌, ◌≤◌, ◌^◌, ◌++◌, IfOk, length, vec_capacity};
 ghost use Rattle.region_book.specs.Machine.{numbered, parts_of};
 
@@ -6,17 +6,6 @@ use crate::pending::Pending;
 use prefix_jobs::{Number, Outcome};
 use sat_terms::Cube;
 use std::alloc::{AllocError, Global};
-
-/// The same cubes once more.
-pub(crate) fn copied(alloc: Global, cubes: &[Cube]) -> Result<Vec<Cube>, AllocError>
-    ensures { IfOk result (λ copies. copies.items ≡ cubes.now) }
-{
-    let mut copies = Vec::with_capacity(alloc, cubes.len())?;
-    for cube in cubes {
-        copies.push_reserved(cube.copy(alloc)?);
-    }
-    Ok(copies)
-}
 
 /// The prefixes once more, pending, with the numbers of this place. Nobody holds them.
 pub(crate) fn numbered(

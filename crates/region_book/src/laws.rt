@@ -1,7 +1,12 @@
 //! The laws of a book's events, each as the contract of an empty function.
-ghost use Rattle.region_book.specs.Laws.{EventsKeepPartition, NothingPendingIsRight};
-ghost use Rattle.region_book.specs.Laws.{OthersKeep, NumbersAreDistinct};
+ghost use Rattle.region_book.specs.Laws.{StartIsPartition, EventsKeepPartition, NothingPendingIsRight};
+ghost use Rattle.region_book.specs.Laws.{OthersKeep, NumbersAreDistinct, ArrangedIsWhole};
 ghost use Rattle.region_book.specs.Examples.{HasScript};
+
+/// A book without saved lines begins with a partition: the given literals are its one prefix.
+pub fn start_is_partition()
+    ensures { StartIsPartition }
+{}
 
 /// Legal events make a partition of a partition, and what they spend is paid for by what was
 /// pending.
@@ -12,6 +17,12 @@ pub fn events_keep_partition()
 /// Where nothing is pending, the published cubes are the right list, once they are sorted.
 pub fn nothing_pending_is_right()
     ensures { NothingPendingIsRight }
+{}
+
+/// An arranged book is a partition, if what it began with was one: no projected assignment is lost
+/// or doubled. Where nothing is pending, the published cubes are the right list.
+pub fn arranged_is_whole()
+    ensures { ArrangedIsWhole }
 {}
 
 /// Events of other passes leave what a pass holds.

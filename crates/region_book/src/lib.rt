@@ -10,6 +10,7 @@ mod arranged;
 mod book;
 mod copies;
 mod event;
+mod found_at;
 pub mod laws;
 mod lowest;
 mod pages;

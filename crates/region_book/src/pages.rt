@@ -7,36 +7,32 @@ ghost use Rattle.region_book.specs.declared.pending.Pending.{Pending};
 ghost use Rattle.region_book.specs.declared.event.Event.TheVariants.{Release};
 ghost use Rattle.region_book.specs.Machine.{is_free, is_held_by};
 ghost use Rattle.region_book.specs.Starts.{start_of};
+ghost use Rattle.region_book.specs.Found.{AreEntered, places_from};
 ghost use Rattle.region_book.specs.Pages.{state_of_pages, HasReleaseRoom, HasEventRoom, IsSame, Enters};
 ghost use Rattle.region_book.specs.Pages.{TakesPrefix, IsPrepared, Reports};
 
 use crate::answers::{Reported, Taken};
-use crate::copies::{copied, move_all, numbered, parts_of};
+use crate::copies::{move_all, numbered, parts_of};
 use crate::event::Event;
+use crate::found_at::{FoundAt, add_places};
 use crate::pending::Pending;
 use checkpoint::Saved;
 use prefix_jobs::{Number, Outcome};
-use sat_terms::{Cube, Subject};
+use sat_terms::Subject;
 use std::alloc::{AllocError, Global};
 
 /// At so many leaves the number of those reported stands still.
 const MOST_SPENT: u64 = 1 << 62;
 
-/// The journal of a book, and what its events made. The journal has room for one event more for
-/// each prefix that is held, so that a release takes no memory.
+/// The journal of a book, and what its events made. A published cube is named by where it stands:
+/// no cube is kept twice. The journal has room for one event more for each prefix that is held, so
+/// that a release takes no memory.
 #[derive(Drop)]
 pub(crate) struct Pages {
     pub(crate) journal: Vec<Event>,
-    pub(crate) published: Vec<Cube>,
+    pub(crate) published: Vec<FoundAt>,
     pub(crate) pending: Vec<Pending>,
     pub(crate) spent: u64,
-}
-
-/// What an outcome brings, copied out of it.
-#[derive(Drop)]
-pub(crate) struct Parts {
-    cubes: Vec<Cube>,
-    pending: Vec<Pending>,
 }
 
 impl Pages {
@@ -49,8 +45,9 @@ impl Pages {
     ) -> Result<Pages, AllocError>
         requires { length (start_of subject.now saved.now).pending < 2 ^ 32 }
         ensures journal { IfOk result (λ pages. pages.journal.items ≡ []) }
-        ensures state { IfOk result (λ pages. state_of_pages pages
+        ensures state { IfOk result (λ pages. state_of_pages saved.now pages
             ≡ start_of subject.now saved.now) }
+        ensures entered { IfOk result (λ pages. AreEntered 0 pages.published.items) }
     {
         match saved {
             None => {
@@ -63,15 +60,15 @@ impl Pages {
                 Ok(Pages::empty_with(alloc, Vec::new(alloc), pending))
             }
             Some(saved) => {
-                let published = copied(alloc, saved.cubes.as_slice())?;
+                let published = all_saved(alloc, saved.cubes.as_slice().len())?;
                 let pending = numbered(alloc, 0, saved.pending.as_slice())?;
                 Ok(Pages::empty_with(alloc, published, pending))
             }
         }
     }
 
-    /// These cubes and prefixes, and no event.
-    fn empty_with(alloc: Global, published: Vec<Cube>, pending: Vec<Pending>) -> Pages
+    /// These places of cubes, these prefixes, and no event.
+    fn empty_with(alloc: Global, published: Vec<FoundAt>, pending: Vec<Pending>) -> Pages
         ensures journal { result.journal.items ≡ [] }
         ensures published { result.published.items ≡ published.items }
         ensures pending { result.pending.items ≡ pending.items }
@@ -119,45 +116,46 @@ impl Pages {
         self.journal.push_reserved(Event::Release { pass, number });
     }
 
-    /// Copies what the outcome brings, and makes room for it.
+    /// Copies what the outcome leaves to be searched, and makes room for it and its cubes.
     pub(crate) fn prepare(
         &mut self,
         alloc: Global,
         pass: u32,
         outcome: &Outcome,
-    ) -> Result<Parts, AllocError>
+    ) -> Result<Vec<Pending>, AllocError>
         requires room { HasReleaseRoom self.old }
         requires few { length outcome.now.rest < 2 ^ 32 - 1 }
         ensures same { IsSame self.old self.new }
-        ensures prepared { IfOk result (λ parts. IsPrepared self.new pass outcome.now parts) }
+        ensures prepared { IfOk result (λ parts. IsPrepared self.new pass outcome.now parts.items) }
     {
-        let cubes = copied(alloc, outcome.cubes.as_slice())?;
         let place = self.journal.len() as u64 + 1;
-        let pending = parts_of(alloc, place, pass, outcome)?;
-        self.published.reserve(cubes.len())?;
-        self.pending.reserve(pending.len())?;
+        let parts = parts_of(alloc, place, pass, outcome)?;
+        self.published.reserve(outcome.cubes.as_slice().len())?;
+        self.pending.reserve(parts.len())?;
         self.make_room()?;
-        Ok(Parts { cubes, pending })
+        Ok(parts)
     }
 
-    /// Enters the report of an outcome, whose parts were prepared.
+    /// Enters the report of an outcome. What it leaves to be searched was copied, and its cubes are
+    /// published where they stand.
     pub(crate) fn report(
         &mut self,
         pass: u32,
         number: Number,
         outcome: Outcome,
-        parts: Parts,
+        parts: Vec<Pending>,
     ) -> Reported
         requires held { find (is_held_by pass number) self.old.pending.items ≢ None }
         requires few { length outcome.rest < 2 ^ 32 - 1 }
-        requires prepared { IsPrepared self.old pass outcome parts }
+        requires prepared { IsPrepared self.old pass outcome parts.items }
         ensures { Reports self.old self.new pass number outcome result }
     {
         let found = find_held(&self.pending, pass, number);
         let Some(at) = found else { unreachable!() };
         take_out(&mut self.pending, at);
-        move_all(parts.cubes, &mut self.published);
-        move_all(parts.pending, &mut self.pending);
+        let count = outcome.cubes.as_slice().len();
+        add_places(&mut self.published, self.journal.len() + 1, count);
+        move_all(parts, &mut self.pending);
         self.spent = more_spent(self.spent, outcome.leaves);
         let index = outcome.rest.as_slice().len() as u32;
         let keeps = outcome.kept.is_some();
@@ -183,6 +181,15 @@ impl Pages {
     {
         self.journal.reserve(self.pending.len() + 1)
     }
+}
+
+/// The places of so many cubes that were saved.
+fn all_saved(alloc: Global, count: usize) -> Result<Vec<FoundAt>, AllocError>
+    ensures { IfOk result (λ found. found.items ≡ places_from 0 0 count) }
+{
+    let mut found = Vec::with_capacity(alloc, count)?;
+    add_places(&mut found, 0, count);
+    Ok(found)
 }
 
 /// The place of the prefix of this number, if nobody holds it.

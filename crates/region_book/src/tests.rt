@@ -3,10 +3,11 @@ ghost use Rattle.std.specs.Prelude.{◌≡◌, true, ◌∷◌, [], IfOk};
 ghost use Rattle.std.specs.List.{All};
 ghost use Rattle.sat_terms.specs.Literals.{IsLiteral};
 ghost use Rattle.sat_terms.specs.Cubes.{rises_above};
-ghost use Rattle.region_book.specs.Examples.{script_subject, script_book};
+ghost use Rattle.region_book.specs.Examples.{script_subject, script_book, split_saved};
 ghost use Rattle.region_book.specs.Examples.{first_outcome, second_outcome};
 
 use crate::{Book, Progress, Reported, Taken};
+use checkpoint::{Saved, SavedView};
 use prefix_jobs::{Number, Outcome};
 use sat_terms::{Clause, Cube, CubeList, Formula, Items, Subject};
 use std::alloc::{AllocError, Global};
@@ -176,6 +177,8 @@ fn two_passes_search_in_turns(rt: HostRuntime) -> Result<(), Fail> {
     assert_eq!(rt; told(book.state()), (0, ALL));
     let arranged = book.arrange();
     assert_eq!(rt; arranged.count(), 2);
+    assert_eq!(rt; arranged.at(0), [-1, 2].as_slice());
+    assert_eq!(rt; arranged.at(1), [1, -2].as_slice());
     Ok(())
 }
 
@@ -186,5 +189,34 @@ fn a_held_prefix_is_gone_for_others(rt: HostRuntime) -> Result<(), Fail> {
     finds_nothing(&rt, &mut book)?;
     assert_eq!(rt; book.journal().len(), 1);
     assert_eq!(rt; book.spent(), 0);
+    Ok(())
+}
+
+/// Three prefixes that were saved, not in order.
+fn saved_prefixes(alloc: Global) -> Result<Saved, AllocError>
+    ensures { IfOk result (λ saved. saved ≡ split_saved) }
+{
+    let pending = vec![in alloc;
+        cube(alloc, &[1, 2])?,
+        cube(alloc, &[1, -2])?,
+        cube(alloc, &[-1])?,
+    ]?;
+    Ok(Saved {
+        cubes: Items::from_vec(Vec::new(alloc)),
+        pending: Items::from_vec(pending),
+    })
+}
+
+#[test]
+fn saved_prefixes_are_pending_and_come_in_order(rt: HostRuntime) -> Result<(), Fail> {
+    let alloc = rt.alloc();
+    let book = Book::make(alloc, subject(alloc)?, Some(saved_prefixes(alloc)?), 1)?;
+    assert_eq!(rt; told(book.state()), (2, ALL));
+    let mut arranged = book.arrange();
+    assert_eq!(rt; arranged.count(), 0);
+    assert_eq!(rt; arranged.pending_count(), 3);
+    assert_eq!(rt; arranged.pending_at(0), [-1].as_slice());
+    assert_eq!(rt; arranged.pending_at(1), [1, -2].as_slice());
+    assert_eq!(rt; arranged.pending_at(2), [1, 2].as_slice());
     Ok(())
 }

@@ -4,7 +4,7 @@ use Rattle.region_book.specs.declared.event.Event.TheVariants.{Report}
 use Rattle.region_book.specs.Machine.{BookState, is_held_by, FitsFound}
 use Rattle.region_book.specs.Pages.{report_answer}
 use Rattle.region_book.specs.Books.{BookView, IsBook, state_of, with_event}
-use Rattle.region_book.proofs.Booked.{same_book, entered_book, same_view, entered_view}
+use Rattle.region_book.proofs.Booked.{state_same, same_book, entered_book, same_view, entered_view}
 use Rattle.region_book.proofs.book.Book.report.Goals as goal
 
 pub invariant_of-self : goal.invariant_of-self
@@ -14,7 +14,7 @@ invariant_of-self c =
     let o = c.args.outcome in
     let kept = c.prepare.new.self in
     entered_book b.subject b.saved b.passes kept c.report.new.self (same_book b.subject b.saved b.passes b.pages kept c.self.invariant c.prepare.ensures.same) (Report c.args.pass n o) c.report.ensures.enters
-    (subst (λ (s : BookState). FitsFound b.subject.formula.clauses b.subject.shown (find (is_held_by c.args.pass n) s.pending) o) (c.self.invariant.state ∙ sym c.prepare.ensures.same.state)
+    (subst (λ (s : BookState). FitsFound b.subject.formula.clauses b.subject.shown (find (is_held_by c.args.pass n) s.pending) o) (c.self.invariant.state ∙ sym (state_same b.saved b.pages kept c.prepare.ensures.same))
     (subst (λ (v : BookView). FitsFound v.subject.formula.clauses v.subject.shown (find (is_held_by c.args.pass n) (state_of v).pending) o) (sym c.self.view_is) c.requires.fits))
 
 pub returns-in-Ok-clause-reports : goal.returns-in-Ok-clause-reports

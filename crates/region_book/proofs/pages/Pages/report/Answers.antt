@@ -1,10 +1,11 @@
-use Rattle.std.proofs.Common.{◌≡◌, ℕ, suc, ◌++◌, length, take, drop, is_some, List, ℤ, Option, Some, None, refl, sym, ap, ◌∙◌, add-one, arith}
+use Rattle.std.proofs.Common.{◌≡◌, ℕ, suc, ◌++◌, length, take, drop, is_some, List, ℤ, Option, Some, None, refl, sym, ap, ap₂, ◌∙◌, add-one, arith}
 use Rattle.std.specs.List.{position}
 use Rattle.std.specs.Bool.{then_some}
 use Rattle.prefix_jobs.specs.declared.number.Number.{Number}
 use Rattle.prefix_jobs.specs.declared.outcome.Outcome.{Outcome}
 use Rattle.region_book.specs.declared.answers.Reported.{Reported}
 use Rattle.region_book.specs.declared.pages.Pages.{Pages}
+use Rattle.region_book.specs.Found.{places_from}
 use Rattle.region_book.specs.Machine.{is_held_by, edit_first, taken_out}
 use Rattle.region_book.specs.Pages.{kept_number, report_answer}
 use Rattle.region_book.proofs.Paged.{enters_report, no_prefix}
@@ -30,7 +31,7 @@ pub returns : goal.returns
 returns c =
     let old = c.args.self.now in
     let o = c.args.outcome in
-    let new : Pages = record { journal = c.push_reserved.new.self; published = c.move_all.new.to; pending = c.move_all-2.new.to; spent = c.more_spent-self.result } in
+    let new : Pages = record { journal = c.push_reserved.new.self; published = c.add_places.new.found; pending = c.move_all.new.to; spent = c.more_spent-self.result } in
     let test = is_held_by c.args.pass c.args.number in
     let at = c.in-Some.at in
     let d = no_prefix c.args.number in
@@ -38,9 +39,12 @@ returns c =
     let parts = c.requires.prepared in
     record {
       enters = enters_report old new c.args.pass c.args.number at d o c.requires.held c.push_reserved.ensures.items
-          (c.move_all.ensures ∙ ap (λ x. old.published.items ++ x) parts.cubes)
-          (c.move_all-2.ensures
-          ∙ ap (λ x. x ++ c.args.parts.pending.items) (c.take_out.ensures.rest ∙ ap (λ x. take at old.pending.items ++ drop x old.pending.items) (add-one at) ∙ removed_is_edit test old.pending.items at d found)
+          (c.add_places.ensures
+          ∙ ap₂ (λ j n. old.published.items ++ places_from j 0 n)
+          (let one = c.len.ensures in let two = old.journal.ok.0 in omega arith)
+          (ap length c.as_slice-count.ensures))
+          (c.move_all.ensures
+          ∙ ap (λ x. x ++ c.args.parts.items) (c.take_out.ensures.rest ∙ ap (λ x. take at old.pending.items ++ drop x old.pending.items) (add-one at) ∙ removed_is_edit test old.pending.items at d found)
           ∙ ap (λ x. edit_first test taken_out old.pending.items ++ x) parts.pending)
           c.more_spent-self.ensures
           (let room = parts.room in let same = c.push_reserved.ensures.capacity in omega arith);

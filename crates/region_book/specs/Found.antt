@@ -1,0 +1,44 @@
+-- Where the published cubes stand: each is named by a place, and kept there alone.
+use Rattle.std.specs.Prelude.{ℕ, zero, suc, ◌≤◌, List, [], ◌∷◌, map, slice_index_or, ℤ, Option, Some, None}
+use Rattle.std.specs.List.{All}
+use Rattle.std.specs.declared.cmp.Ordering.{Ordering}
+use Rattle.sat_terms.specs.CubeOrder.{cube_order}
+use Rattle.checkpoint.specs.declared.saved.Saved.{Saved}
+use Rattle.region_book.specs.declared.event.Event.{Event}
+use Rattle.region_book.specs.declared.event.Event.TheVariants.{Take, Report, Release}
+use Rattle.region_book.specs.declared.found_at.FoundAt.{FoundAt}
+
+-- The cubes that were saved, and those that an event brought.
+abbrev pub saved_cubes : Option Saved → List (List ℤ)
+saved_cubes None = []
+saved_cubes (Some saved) = saved.cubes
+
+abbrev pub brought_by : Event → List (List ℤ)
+brought_by (Take k n) = []
+brought_by (Report k n o) = o.cubes
+brought_by (Release k n) = []
+
+-- The cubes of a place: the saved ones have the place 0, and those of an event its own.
+abbrev pub cubes_at : Option Saved → List Event → ℕ → List (List ℤ)
+cubes_at saved events zero = saved_cubes saved
+cubes_at saved events (suc j) = slice_index_or (map brought_by events) j []
+
+-- The cube that stands there; the empty one where none does.
+abbrev pub cube_at : Option Saved → List Event → FoundAt → List ℤ
+cube_at saved events a = slice_index_or (cubes_at saved events a.place) a.index []
+
+abbrev pub named_cubes : Option Saved → List Event → List FoundAt → List (List ℤ)
+named_cubes saved events found = map (cube_at saved events) found
+
+-- The places of n cubes of the place j, from the index i on.
+abbrev pub places_from : ℕ → ℕ → ℕ → List FoundAt
+places_from j i zero = []
+places_from j i (suc n) = record { place = j; index = i } ∷ places_from j (suc i) n
+
+-- Each is of the saved cubes, or of one of so many events.
+abbrev pub AreEntered : ℕ → List FoundAt → Type 0
+AreEntered m found = All (λ a. a.place ≤ m) found
+
+-- Places are ordered by the cubes that stand there.
+abbrev pub found_order : Option Saved → List Event → FoundAt → FoundAt → Ordering
+found_order saved events a b = cube_order (cube_at saved events a) (cube_at saved events b)
