@@ -1,0 +1,5 @@
+mod Allowances
+mod Begin
+mod Held
+mod Prefixes
+mod Steps
