@@ -1,0 +1,4 @@
+mod Choices
+pub mod Fixed
+pub mod Good
+pub mod Subjects
