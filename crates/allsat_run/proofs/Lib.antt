@@ -1,5 +1,5 @@
-mod Fronts
-pub mod Ending
+pub mod DrillEnds
 pub mod Jobs
 pub mod NoteLemmas
-pub mod WordLemmas
+pub mod Resumed
+pub mod Searches

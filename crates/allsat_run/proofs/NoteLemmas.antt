@@ -2,7 +2,7 @@
 use Rattle.std.proofs.Common.{◌≡◌, ℕ, List, Result, Ok, Err, ◌⊎◌, inl, inr, refl}
 use Rattle.fault_io.specs.Sinks.{SinkView, TakesBytes, TakesFront, TakesWhole}
 use Rattle.allsat_run.specs.declared.status.Status.{Status}
-use Rattle.allsat_run.specs.declared.status.Status.TheVariants.{Finished, WordsRefused, InputRefused, OutOfMemory, ReadFault, WriteFault}
+use Rattle.allsat_run.specs.declared.status.Status.TheVariants.{Finished, WordsRefused, InputRefused, BudgetSpent, OutOfMemory, ReadFault, WriteFault}
 use Rattle.allsat_run.specs.Run.{Notes}
 use Rattle.allsat_run.specs.Status.{note_of}
 
@@ -18,6 +18,7 @@ pub noted : {N : Type 0} (sink : N → SinkView) (notes notes' : N) (status : St
 noted sink notes notes' Finished unfinished put = absurd (unfinished refl)
 noted sink notes notes' WordsRefused unfinished put = put
 noted sink notes notes' (InputRefused refused) unfinished put = put
+noted sink notes notes' BudgetSpent unfinished put = put
 noted sink notes notes' OutOfMemory unfinished put = put
 noted sink notes notes' (ReadFault line) unfinished put = put
 noted sink notes notes' WriteFault unfinished put = put

@@ -1,3 +1,5 @@
+pub mod Drilling
+pub mod Laws
 pub mod Run
+pub mod Searches
 pub mod Status
-pub mod Words

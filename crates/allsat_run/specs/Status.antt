@@ -5,13 +5,14 @@ use Rattle.dimacs_front.specs.declared.refused.TextRefused.{TextRefused}
 use Rattle.dimacs_front.specs.declared.refused.TextRefused.TheVariants.{ClauseCount}
 use Rattle.dimacs_front.specs.Numbering.{number_of, name_of, line_of}
 use Rattle.allsat_run.specs.declared.status.Status.{Status}
-use Rattle.allsat_run.specs.declared.status.Status.TheVariants.{Finished, WordsRefused, InputRefused, OutOfMemory, ReadFault, WriteFault}
+use Rattle.allsat_run.specs.declared.status.Status.TheVariants.{Finished, WordsRefused, InputRefused, BudgetSpent, OutOfMemory, ReadFault, WriteFault}
 
 -- the exit code
 abbrev pub code_of : Status → ℕ
 code_of Finished = 0
 code_of WordsRefused = 1
 code_of (InputRefused r) = 2
+code_of BudgetSpent = 3
 code_of OutOfMemory = 4
 code_of (ReadFault line) = 5
 code_of WriteFault = 6
@@ -36,6 +37,7 @@ abbrev pub note_of : Status → List ℕ
 note_of Finished = []
 note_of WordsRefused = codes "allsat: words refused\n"
 note_of (InputRefused r) = codes "allsat: input refused: " ++ refusal_text r
+note_of BudgetSpent = codes "allsat: budget spent\n"
 note_of OutOfMemory = codes "allsat: out of memory\n"
 note_of (ReadFault line) = codes "allsat: read fault line " ++ number_line line
 note_of WriteFault = codes "allsat: write fault\n"

@@ -50,7 +50,7 @@ impl Counts {
     }
 
     /// Counts one cube.
-    fn count(&mut self, shown: &[u32], lits: &[i32]) {
+    pub(crate) fn count(&mut self, shown: &[u32], lits: &[i32]) {
         let sides = sides_of(lits, shown);
         for (assignment, count) in self.counts.iter_mut().enumerate() {
             if assignment & sides.fixed == sides.truth {
@@ -74,6 +74,16 @@ impl Counts {
                 *count = 0;
             }
         }
+    }
+
+    /// Whether no assignment is counted twice.
+    pub(crate) fn is_set(&self) -> bool {
+        self.counts.iter().all(|count| *count <= 1)
+    }
+
+    /// Whether no assignment is counted.
+    pub(crate) fn is_empty(&self) -> bool {
+        self.counts.iter().all(|count| *count == 0)
     }
 
     /// The counts, by assignment.

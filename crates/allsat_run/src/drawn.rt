@@ -64,12 +64,12 @@ fn put(text: &mut Vec<u8>, number: i32) -> Result<(), AllocError> {
     Ok(())
 }
 
-/// Writes a clause of two to four literals.
+/// Writes a clause of three or four literals. One of them may stand twice, or beside its negation.
 fn put_clause(text: &mut Vec<u8>, draws: &mut Draws, variables: u32) -> Result<(), AllocError>
     requires some { 0 < variables }
     requires few { variables ≤ 13 }
 {
-    for _ in 0..2 + draws.below(3) {
+    for _ in 0..3 + draws.below(2) {
         put(text, draws.literal(variables))?;
     }
     text.extend_from_slice(b"0\n")
@@ -119,11 +119,11 @@ fn put_shown(text: &mut Vec<u8>, draws: &mut Draws, variables: u32) -> Result<()
     text.extend_from_slice(b"0\n")
 }
 
-/// A formula of 9 to 13 variables, with two to five times as many clauses, and up to two parities
-/// of three literals. At most nine variables are shown.
+/// A formula of 9 to 13 variables, with three to five times as many clauses, and up to two parities
+/// of three literals. At most nine variables are shown. About three of four have a solution.
 pub(crate) fn draw_text(alloc: Global, draws: &mut Draws) -> Result<Vec<u8>, AllocError> {
     let variables = 9 + draws.below(5);
-    let clauses = variables * (2 + draws.below(4));
+    let clauses = variables * (3 + draws.below(3));
     let parities = draws.below(3);
     let mut text = Vec::new(alloc);
     text.extend_from_slice(b"p cnf ")?;

@@ -1,21 +1,28 @@
-//! The whole run: words, then the input, then the enumeration, then the listing.
-ghost use Rattle.std.specs.Prelude.{◌≡◌, ◌≢◌, ◌↔◌};
-ghost use Rattle.allsat_run.specs.Run.{Answers, Completes, Notes, WritesOut};
-ghost use Rattle.allsat_run.specs.Words.{IsEnumerate};
+//! The whole run: words, then the input, then the enumeration, then the text of the book.
+ghost use Rattle.std.specs.Prelude.{◌≡◌, ◌≢◌, ◌↔◌, None, Some};
+ghost use Rattle.fault_io.specs.Sinks.{TakesWhole};
+ghost use Rattle.allsat_run.specs.Run.{Answers, Completes, Notes, book_text};
+ghost use Rattle.allsat_run.specs.Drilling.{AnswersCommand, CompletesCommand};
+ghost use Rattle.allsat_run.specs.Searches.{WritesBook};
+ghost use Rattle.command_words.specs.Commands.{command_of};
 
-use crate::search::list_cubes;
-use crate::{Ended, Status, Words, write_note};
+use crate::drilling::drill_alone;
+use crate::search::{Searched, search};
+use crate::{Ended, Status, write_note};
+use checkpoint::write_saved;
+use command_words::{Command, Words, read_words};
 use cube_text::write_listing;
-use dimacs_front::{ReadRefused, TextRefused, read_subject};
-use fault_io::{Sink, Source};
-use sat_terms::{Cube, Items};
+use dimacs_front::{ReadRefused, read_subject};
+use fault_io::{Sink, Source, WriteFault};
+use region_book::ArrangedBook;
 use std::alloc::Global;
 use std::sync::Wait;
 use std::thread::Threads;
 
 /// Does all that the program does: reads the words, then the input, enumerates, and writes the
-/// listing to `out` and the line of the status to `notes`. `words` are the words after the
-/// program's name.
+/// listing, or the saved text of a run that stopped, to `out`, and the line of the status to
+/// `notes`. A drill takes no input, and its summary stands in place of the listing. `words` are the
+/// words after the program's name. Each number of workers is served by one, the calling thread.
 #[tactic(auto, using(dimacs_front::proofs::Taking::nothing_asked))]
 pub fn run<R: Threads + Wait + Sync, S: Source, K: Sink, N: Sink>(
     _rt: &R,
@@ -25,49 +32,75 @@ pub fn run<R: Threads + Wait + Sync, S: Source, K: Sink, N: Sink>(
     out: &mut K,
     notes: &mut N,
 ) -> Ended
-    ensures words { (result.status ≡ Status.WordsRefused) ↔ (¬ (IsEnumerate words.now)) }
-    ensures answers { Answers S.shows K.shows input.old input.new out.old out.new result.status }
-    ensures complete { IsEnumerate words.now →
-        Completes S.shows K.shows input.old input.new out.old out.new result.status }
+    ensures words { (result.status ≡ Status.WordsRefused) ↔ (command_of words.now ≡ None) }
+    ensures answers { AnswersCommand S.shows K.shows (command_of words.now) input.old input.new
+        out.old out.new result.status result.book }
+    ensures complete { CompletesCommand S.shows K.shows (command_of words.now) input.old input.new
+        out.old out.new result.status }
     ensures notes { Notes N.shows notes.old notes.new result.status }
 {
-    let status = if words.is_enumerate() {
-        enumerate_alone(alloc, input, out)
-    } else {
-        Status::WordsRefused
+    let ended = match read_words(words) {
+        Some(Command::Enumerate { budget, .. }) => enumerate_alone(alloc, input, out, budget),
+        Some(Command::Drill { size, .. }) => drill_alone(alloc, size, out),
+        None => Ended::alone(Status::WordsRefused),
     };
-    write_note(&status, notes);
-    Ended { status }
+    write_note(&ended.status, notes);
+    ended
 }
 
-/// Reads the input, enumerates and writes the listing, on the calling thread. It waits for nobody
-/// and always returns. From a saved text no run goes on yet: it is refused as such.
-pub fn enumerate_alone<S: Source, K: Sink>(alloc: Global, input: &mut S, out: &mut K) -> Status
-    ensures words { result ≢ Status.WordsRefused }
-    ensures answers { Answers S.shows K.shows input.old input.new out.old out.new result }
-    ensures complete { Completes S.shows K.shows input.old input.new out.old out.new result }
+/// Reads the input, enumerates and writes the listing, or the saved text, on the calling thread. It
+/// waits for nobody and always returns. The budget is a number of leaves, which no run goes beyond.
+pub fn enumerate_alone<S: Source, K: Sink>(
+    alloc: Global,
+    input: &mut S,
+    out: &mut K,
+    budget: Option<u64>,
+) -> Ended
+    ensures words { result.status ≢ Status.WordsRefused }
+    ensures answers { Answers S.shows K.shows input.old input.new budget out.old out.new
+        result.status result.book }
+    ensures complete { Completes S.shows K.shows input.old input.new budget out.old out.new
+        result.status }
 {
     let input = match read_subject(alloc, input) {
         Ok(input) => input,
-        Err(ReadRefused::Text(refused)) => return Status::InputRefused(refused),
-        Err(ReadRefused::ReadFault(line)) => return Status::ReadFault(line),
-        Err(ReadRefused::OutOfMemory(_)) => return Status::OutOfMemory,
+        Err(ReadRefused::Text(refused)) => return Ended::alone(Status::InputRefused(refused)),
+        Err(ReadRefused::ReadFault(line)) => return Ended::alone(Status::ReadFault(line)),
+        Err(ReadRefused::OutOfMemory(_)) => return Ended::alone(Status::OutOfMemory),
     };
-    if input.saved.is_some() {
-        return Status::InputRefused(TextRefused::NotBuilt { line: 1 });
-    }
-    match list_cubes(alloc, &input.subject) {
-        Ok(cubes) => write_out(&Items::from_vec(cubes), out),
-        Err(_) => Status::OutOfMemory,
+    match search(alloc, input, budget) {
+        Ok(searched) => write_out(searched, out),
+        Err(_) => Ended::alone(Status::OutOfMemory),
     }
 }
 
-/// Writes the listing, and finishes the output.
-fn write_out<K: Sink>(cubes: &Items<Cube>, out: &mut K) -> Status
-    ensures { WritesOut K.shows cubes.now out.old out.new result }
+/// Writes the text of the book, and finishes the output.
+fn write_out<K: Sink>(searched: Searched, out: &mut K) -> Ended
+    ensures book { result.book ≡ Some searched.book }
+    ensures written { WritesBook (K.shows out.old) (K.shows out.new) searched.status searched.book
+        result.status }
 {
-    if write_listing(cubes, out).is_err() || out.finish().is_err() {
-        return Status::WriteFault;
+    let Searched { mut book, status } = searched;
+    if write_text(&mut book, out).is_err() || out.finish().is_err() {
+        return Ended {
+            status: Status::WriteFault,
+            book: Some(book),
+        };
     }
-    Status::Finished
+    Ended {
+        status,
+        book: Some(book),
+    }
+}
+
+/// Writes the listing of the book, or its saved text where something is pending.
+fn write_text<K: Sink>(book: &mut ArrangedBook, out: &mut K) -> Result<(), WriteFault>
+    ensures written { TakesWhole (K.shows out.old) (K.shows out.new) (book_text book.old) result }
+    ensures same { book.new ≡ book.old }
+{
+    if book.pending().is_empty() {
+        write_listing(book, out)
+    } else {
+        write_saved(book, out)
+    }
 }

@@ -33,6 +33,7 @@ fn put_note<N: Sink>(status: &Status, buffer: &mut Buffered, notes: &mut N)
             buffer.put(b"allsat: input refused: ", notes);
             put_refusal(refused, buffer, notes);
         }
+        Status::BudgetSpent => buffer.put(b"allsat: budget spent\n", notes),
         Status::OutOfMemory => buffer.put(b"allsat: out of memory\n", notes),
         Status::ReadFault(line) => {
             buffer.put(b"allsat: read fault line ", notes);

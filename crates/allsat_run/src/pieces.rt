@@ -1,5 +1,5 @@
-//! For tests: a listing in pieces. Each job gives branches away and ends at any leaf; what it gives
-//! or leaves is searched by jobs of their own, of the same engine.
+//! For tests: a listing in pieces. A job gives branches away and may end at any leaf; what it gives
+//! or leaves open is searched by jobs of their own, of the same engine.
 ghost use Rattle.std.specs.Prelude.{◌≡◌, ◌≢◌, true, false, None, IfOk};
 ghost use Rattle.sat_terms.specs.Cubes.{IsCube};
 ghost use Rattle.sat_terms.specs.Subjects.{IsSubject, IsVariableList};
@@ -11,6 +11,37 @@ use prefix_jobs::Outcome;
 use sat_terms::{Cube, Subject};
 use std::alloc::{AllocError, Global};
 use std::process::Abort;
+
+/// At which leaves a job gives a branch away, and at which it ends.
+#[derive(Debug, Drop)]
+pub(crate) enum Cuts {
+    /// It gives one away, where anything is untried, and ends, at its first leaf: the pieces make
+    /// a chain of as many jobs as there are leaves.
+    EachLeaf,
+    /// It gives one away at each leaf, and ends at its last.
+    EachGift,
+    /// It gives one away at half of the leaves, and ends at each eighth.
+    Drawn(Draws),
+}
+
+impl Cuts {
+    /// Whether a job is to give a branch away at this leaf.
+    fn gives(&mut self) -> bool {
+        match self {
+            Cuts::EachLeaf | Cuts::EachGift => true,
+            Cuts::Drawn(draws) => draws.below(2) == 0,
+        }
+    }
+
+    /// Whether a job is to end at a leaf.
+    fn ends(&mut self, leaf: Leaf) -> bool {
+        match self {
+            Cuts::EachLeaf => true,
+            Cuts::EachGift => leaf == Leaf::Ended,
+            Cuts::Drawn(draws) => leaf == Leaf::Ended || draws.below(8) == 0,
+        }
+    }
+}
 
 /// The pieces so far, and the prefixes that are still to be searched.
 #[derive(Debug, Drop)]
@@ -85,35 +116,30 @@ fn take_given(
     }
 }
 
-/// Gives a branch away at half of the leaves.
+/// Gives a branch away where a job is to.
 fn give_at_times(
     engine: &mut Engine,
     shown: &[u32],
-    draws: &mut Draws,
+    cuts: &mut Cuts,
     pieces: &mut Pieces,
 ) -> Result<(), AllocError>
     requires { engine.old.job ≢ None }
     ensures runs { IfOk result (λ _. engine.new.job ≢ None) }
     ensures subject { IfOk result (λ _. engine.new.subject ≡ engine.old.subject) }
 {
-    if draws.below(2) == 0 {
+    if !cuts.gives() {
         return Ok(());
     }
     let given = give(engine)?;
     take_given(pieces, shown, given)
 }
 
-/// Whether a job is to end at a leaf: at its last one, and at each eighth.
-fn is_last(leaf: Leaf, draws: &mut Draws) -> bool {
-    leaf == Leaf::Ended || draws.below(8) == 0
-}
-
-/// Goes to the next leaf, and ends there, or goes on, with what it keeps where it gives a branch
-/// away. Answers whether the job goes on.
+/// Goes to the next leaf, may give a branch away there, and ends, or goes on with what it keeps.
+/// Answers whether the job goes on.
 fn goes_on(
     engine: &mut Engine,
     shown: &[u32],
-    draws: &mut Draws,
+    cuts: &mut Cuts,
     pieces: &mut Pieces,
 ) -> Result<bool, AllocError>
     requires { engine.old.job ≢ None }
@@ -122,13 +148,13 @@ fn goes_on(
     ensures subject { IfOk result (λ _. engine.new.subject ≡ engine.old.subject) }
 {
     let leaf = next_leaf(engine)?;
-    if is_last(leaf, draws) {
-        let outcome = end(engine)?;
-        take(pieces, shown, outcome)?;
-        return Ok(false);
+    give_at_times(engine, shown, cuts, pieces)?;
+    if !cuts.ends(leaf) {
+        return Ok(true);
     }
-    give_at_times(engine, shown, draws, pieces)?;
-    Ok(true)
+    let outcome = end(engine)?;
+    take(pieces, shown, outcome)?;
+    Ok(false)
 }
 
 /// Searches a prefix as one job. False where it does not end within many leaves.
@@ -136,7 +162,7 @@ fn search(
     engine: &mut Engine,
     prefix: &Cube,
     shown: &[u32],
-    draws: &mut Draws,
+    cuts: &mut Cuts,
     pieces: &mut Pieces,
 ) -> Result<bool, AllocError>
     requires idle { engine.old.job ≡ None }
@@ -146,7 +172,7 @@ fn search(
 {
     start(engine, prefix)?;
     for _ in 0..100_000u32 {
-        if !goes_on(engine, shown, draws, pieces)? {
+        if !goes_on(engine, shown, cuts, pieces)? {
             return Ok(true);
         }
     }
@@ -168,7 +194,7 @@ fn search_next(
     engine: &mut Engine,
     pending: &Cube,
     shown: &[u32],
-    draws: &mut Draws,
+    cuts: &mut Cuts,
     pieces: &mut Pieces,
 ) -> Result<(), AllocError>
     requires idle { engine.old.job ≡ None }
@@ -178,7 +204,7 @@ fn search_next(
     ensures subject { IfOk result (λ _. engine.new.subject ≡ engine.old.subject) }
 {
     let prefix = cube_over(rt, alloc, pending.lits(), shown);
-    let ended = search(engine, &prefix, shown, draws, pieces)?;
+    let ended = search(engine, &prefix, shown, cuts, pieces)?;
     assert!(rt; ended, "a job of many leaves");
     Ok(())
 }
@@ -189,7 +215,7 @@ fn search_all(
     alloc: Global,
     engine: &mut Engine,
     shown: &[u32],
-    draws: &mut Draws,
+    cuts: &mut Cuts,
     pieces: &mut Pieces,
 ) -> Result<(), AllocError>
     requires idle { engine.old.job ≡ None }
@@ -200,7 +226,7 @@ fn search_all(
         let Some(pending) = pieces.pending.pop() else {
             return Ok(());
         };
-        search_next(rt, alloc, engine, &pending, shown, draws, pieces)?;
+        search_next(rt, alloc, engine, &pending, shown, cuts, pieces)?;
     }
     assert!(rt; pieces.pending.is_empty(), "too many jobs");
     Ok(())
@@ -212,7 +238,7 @@ fn search_subject(
     rt: &impl Abort,
     alloc: Global,
     subject: &Subject,
-    draws: &mut Draws,
+    cuts: &mut Cuts,
     pieces: &mut Pieces,
 ) -> Result<(), AllocError>
     requires { IsSubject subject.now.formula.variables subject.now.formula.clauses
@@ -224,7 +250,7 @@ fn search_subject(
         alloc,
         &mut engine,
         subject.shown.as_slice(),
-        draws,
+        cuts,
         pieces,
     )
 }
@@ -234,12 +260,13 @@ pub(crate) fn count_in_pieces(
     rt: &impl Abort,
     alloc: Global,
     subject: &Subject,
-    draws: &mut Draws,
+    cuts: Cuts,
 ) -> Result<Counts, AllocError>
     requires { IsSubject subject.now.formula.variables subject.now.formula.clauses
         subject.now.shown subject.now.under }
 {
+    let mut cuts = cuts;
     let mut pieces = none_of(alloc, subject)?;
-    search_subject(rt, alloc, subject, draws, &mut pieces)?;
+    search_subject(rt, alloc, subject, &mut cuts, &mut pieces)?;
     Ok(pieces.counts)
 }

@@ -1,36 +1,44 @@
-//! The enumeration of a subject: one job of the engine, and its cubes brought into order.
-ghost use Rattle.std.specs.Prelude.{◌≡◌, IfOk};
-ghost use Rattle.sat_terms.specs.CubeOrder.{cube_order};
-ghost use Rattle.sat_terms.specs.RightList.{IsRightList};
-ghost use Rattle.sat_terms.specs.Subjects.{IsSubject};
+//! The search of an input: one engine sweeps its book, which is then brought into order.
+ghost use Rattle.std.specs.Prelude.{IfOk};
+ghost use Rattle.dimacs_front.specs.Answers.{IsWithinLimits, IsSavedOf};
+ghost use Rattle.allsat_run.specs.Searches.{Searches};
 
-use cube_text::shared_front;
-use live_engine::{Engine, Leaf};
-use sat_terms::{Cube, Subject, compare};
+use crate::Status;
+use dimacs_front::Input;
+use live_engine::Engine;
+use region_book::{ArrangedBook, Book};
 use std::alloc::{AllocError, Global};
-use std::cmp::Ordering;
+use worker_loop::sweep;
 
-/// The right list of a subject: a job starts from the given literals, and goes from leaf to leaf
-/// until nothing is left to try. The cubes found are sorted in their own memory.
-pub fn list_cubes(alloc: Global, subject: &Subject) -> Result<Vec<Cube>, AllocError>
-    requires { IsSubject subject.now.formula.variables subject.now.formula.clauses
-        subject.now.shown subject.now.under }
-    ensures { IfOk result (λ cubes. IsRightList subject.now.formula.clauses subject.now.shown
-        subject.now.under cubes.items) }
-{
-    let mut engine = Engine::make(alloc, subject)?;
-    engine.start(&subject.under)?;
-    while engine.leaf()? != Leaf::Ended {}
-    let mut cubes = engine.expose()?.cubes.into_vec();
-    cubes.sort_unstable_by(|c, d| compare_past_front(c.lits(), d.lits()));
-    Ok(cubes)
+/// A book whose search has ended, and how.
+#[derive(Drop)]
+pub(crate) struct Searched {
+    pub(crate) book: ArrangedBook,
+    pub(crate) status: Status,
 }
 
-/// Compares two cubes as `compare` does. What both begin with, which is most of two neighbours in
-/// the order, takes one look a literal.
-fn compare_past_front(c: &[i32], d: &[i32]) -> Ordering
-    ensures { result ≡ cube_order c.now d.now }
+/// Searches an input until nothing is pending, as many leaves as the budget says are searched, or
+/// there is no more memory. The answer is an error where there was none to begin with.
+pub(crate) fn search(
+    alloc: Global,
+    input: Input,
+    budget: Option<u64>,
+) -> Result<Searched, AllocError>
+    requires limits { IsWithinLimits input }
+    requires saved { IsSavedOf input.subject.shown input.subject.under input.saved }
+    ensures { IfOk result (λ searched. Searches input budget searched.status searched.book) }
 {
-    let shared = shared_front(c, d);
-    compare(&c[shared..], &d[shared..])
+    let Input { subject, saved } = input;
+    let mut engine = Engine::make(alloc, &subject)?;
+    let mut book = Book::make(alloc, subject, saved, 1)?;
+    let swept = sweep(&mut book, &mut engine, budget);
+    let book = book.arrange();
+    let status = if book.pending().is_empty() {
+        Status::Finished
+    } else if swept.is_ok() {
+        Status::BudgetSpent
+    } else {
+        Status::OutOfMemory
+    };
+    Ok(Searched { book, status })
 }

@@ -1,7 +1,8 @@
 //! How a run ended.
-ghost use Rattle.std.specs.Prelude.{◌≡◌};
+ghost use Rattle.std.specs.Prelude.{◌≡◌, None};
 
 use dimacs_front::TextRefused;
+use region_book::ArrangedBook;
 
 /// How a run ended.
 #[derive(Clone, Copy, Debug, PartialEq, Eq)]
@@ -12,11 +13,15 @@ pub enum Status {
     WordsRefused,
     /// The input is refused.
     InputRefused(TextRefused),
-    /// There was no memory; nothing is written.
+    /// As many leaves were searched as the budget says, and something is pending; the saved text is
+    /// written.
+    BudgetSpent,
+    /// There was no memory. Where the search had begun and something is pending, the saved text is
+    /// written, and else nothing.
     OutOfMemory,
     /// The input failed in this line, counted from 1.
     ReadFault(u64),
-    /// The output failed; a front of the listing is written.
+    /// The output failed; a front of the listing or of the saved text is written.
     WriteFault,
 }
 
@@ -31,6 +36,7 @@ impl Status {
             Status::Finished => 0,
             Status::WordsRefused => 1,
             Status::InputRefused(_) => 2,
+            Status::BudgetSpent => 3,
             Status::OutOfMemory => 4,
             Status::ReadFault(_) => 5,
             Status::WriteFault => 6,
@@ -39,7 +45,19 @@ impl Status {
 }
 
 /// What a run leaves behind.
-#[derive(Clone, Copy, Debug, PartialEq, Eq)]
+#[derive(Drop)]
 pub struct Ended {
     pub status: Status,
+    /// The book of the search, where it had begun.
+    pub book: Option<ArrangedBook>,
+}
+
+impl Ended {
+    /// An end without a book.
+    pub(crate) fn alone(status: Status) -> Ended
+        ensures status { result.status ≡ status }
+        ensures book { result.book ≡ None }
+    {
+        Ended { status, book: None }
+    }
 }

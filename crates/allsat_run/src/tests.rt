@@ -245,7 +245,7 @@ fn a_refused_text_is_named_with_its_line(rt: HostRuntime) -> Result<(), Fail> {
             b"allsat: input refused: 9 ShowBad line 1\n",
         ),
         (
-            b"c allsat saved 1\np cnf 0 0\nc p end\n",
+            b"c allsat met 1\np cnf 0 0\nc p end\n",
             TextRefused::NotBuilt { line: 1 },
             b"allsat: input refused: 20 NotBuilt line 1\n",
         ),

@@ -11,6 +11,9 @@ returns-in-InputRefused g c =
     Hands-along _ _ _ _ _ _ (ap note_of (sym c.in-InputRefused.is))
     (Hands-more _ _ _ _ _ _ _ _ c.put-in-InputRefused.ensures c.put_refusal.ensures)
 
+pub returns-in-BudgetSpent : goal.returns-in-BudgetSpent
+returns-in-BudgetSpent g c = Hands-along _ _ _ _ _ _ (ap note_of (sym c.in-BudgetSpent.is)) c.put-in-BudgetSpent.ensures
+
 pub returns-in-OutOfMemory : goal.returns-in-OutOfMemory
 returns-in-OutOfMemory g c = Hands-along _ _ _ _ _ _ (ap note_of (sym c.in-OutOfMemory.is)) c.put-in-OutOfMemory.ensures
 

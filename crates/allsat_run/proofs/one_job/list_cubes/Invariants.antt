@@ -1,6 +1,6 @@
 use Rattle.std.proofs.Common.{◌≡◌, Some}
 use Rattle.live_engine.specs.Engines.{open_weight}
-use Rattle.allsat_run.proofs.search.list_cubes.Given as goal
+use Rattle.allsat_run.proofs.one_job.list_cubes.Given as goal
 
 abbrev pub invariant-loop-engine : goal.invariant-loop-engine
 invariant-loop-engine l = record {
