@@ -46,8 +46,9 @@ def key(cube):
     return [2 * abs(literal) + (literal > 0) for literal in cube]
 
 
-def check_form(shown, cubes):
-    """That the cubes are made of shown variables that rise, and rise themselves."""
+def check_form(shown, cubes, strictly=True):
+    """That the cubes are made of shown variables that rise, and rise themselves; where not
+    `strictly`, one may stand there more than once."""
     shown = set(shown)
     for number, cube in enumerate(cubes, 1):
         names = [abs(literal) for literal in cube]
@@ -56,7 +57,7 @@ def check_form(shown, cubes):
         if any(a >= b for a, b in zip(names, names[1:])):
             raise Wrong("the variables of cube %d do not rise" % number)
     for number, (first, second) in enumerate(zip(cubes, cubes[1:]), 1):
-        if key(first) >= key(second):
+        if key(first) > key(second) or (strictly and first == second):
             raise Wrong("cube %d does not stand before the next one" % number)
 
 

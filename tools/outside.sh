@@ -31,11 +31,26 @@ expect 'a formula is listed' 0 '' 'v -1 2 0
 v 1 0
 s ALL'
 
-for words in '' 'list' 'enumerate enumerate' 'enumerate 5' '--help'; do
+for words in '' 'list' 'enumerate enumerate' 'enumerate 5' '--help' 'enumerate --help' 'enumerate --' '--workers 2 enumerate' \
+    'enumerate --workers' 'enumerate --workers 0' 'enumerate --workers 17' 'enumerate --workers -1' \
+    'enumerate --workers 2 --workers 2' 'enumerate --budget' 'enumerate --budget 0' 'enumerate --budget +3' \
+    'enumerate --budget 4611686018427387905' 'enumerate --budget=1 --budget=1' 'enumerate --size 4' \
+    'drill' 'drill --size 0' 'drill --size 49' 'drill --size 4 --budget 3'; do
     # The words are to be split here.
     ./allsat $words < examples/first.cnf > "$work/out" 2> "$work/notes"; status=$?
     expect "the words '$words' are refused" 1 'allsat: words refused' ''
 done
+
+for words in '--workers=02' '--budget 4611686018427387904 --workers 16' '--workers 1 --budget=0003'; do
+    ./allsat enumerate $words < examples/first.cnf > "$work/out" 2> "$work/notes"; status=$?
+    expect "the words 'enumerate $words' are a command" 0 '' 'v -1 2 0
+v 1 0
+s ALL'
+done
+
+printf 'p cnf 4097 0\n' | ./allsat enumerate > "$work/out" 2> "$work/notes"; status=$?
+expect '4097 variables may be shown' 0 '' 'v 0
+s ALL'
 
 printf '\377' > "$work/word"
 ./allsat "$(cat "$work/word")" < examples/first.cnf > "$work/out" 2> "$work/notes"; status=$?
@@ -43,6 +58,51 @@ expect 'a word that is no text is refused' 1 'allsat: words refused' ''
 
 printf 'p cnf 2 1\n1 3 0\n' | ./allsat enumerate > "$work/out" 2> "$work/notes"; status=$?
 expect 'a variable above the header is refused' 2 'allsat: input refused: 6 VariableTooLarge line 2' ''
+
+# A run that stops after one leaf, and what goes on from its text.
+saved='c allsat saved 2
+p cnf 2 2
+1 2 0
+-1 -2 0
+c p show 1 2 0
+c p under 0
+c p cube -1 2 0
+c p open 1 0
+c p end'
+listing='v -1 2 0
+v 1 -2 0
+s ALL'
+printf 'p cnf 2 2\n1 2 0\n-1 -2 0\n' > "$work/formula"
+./allsat enumerate --budget 1 < "$work/formula" > "$work/out" 2> "$work/notes"; status=$?
+expect 'a budget of one leaf is spent' 3 'allsat: budget spent' "$saved"
+cp "$work/out" "$work/saved"
+
+./allsat enumerate < "$work/saved" > "$work/out" 2> "$work/notes"; status=$?
+expect 'a run goes on from a saved text' 0 '' "$listing"
+
+./allsat enumerate --budget=0001 < "$work/saved" > "$work/out" 2> "$work/notes"; status=$?
+expect 'the last leaf of a budget finishes' 0 '' "$listing"
+
+./allsat enumerate --budget 2 < "$work/formula" > "$work/out" 2> "$work/notes"; status=$?
+expect 'a budget of all leaves finishes' 0 '' "$listing"
+
+sed '$d' "$work/saved" | ./allsat enumerate > "$work/out" 2> "$work/notes"; status=$?
+expect 'a saved text without its end is refused' 2 'allsat: input refused: 17 SavedUnended line 8' ''
+
+if [ -c /dev/full ]; then
+    ./allsat enumerate --budget 1 < "$work/formula" > /dev/full 2> "$work/notes"; status=$?
+    expect 'a full device as the output of a saved text is a write fault' 6 'allsat: write fault' -
+else
+    echo 'skipped: no /dev/full here'
+fi
+
+./allsat drill --size 4 < "$work" > "$work/out" 2> "$work/notes"; status=$?
+expect 'a drill takes no input' 0 '' 'f -3 4 0
+s ALL'
+
+./allsat drill --workers 2 --size=24 < /dev/null > "$work/out" 2> "$work/notes"; status=$?
+expect 'a drill of size 24' 0 '' 'f -3 4 -7 8 -11 12 -15 16 -19 20 -23 24 0
+s ALL'
 
 ./allsat enumerate < /dev/null > "$work/out" 2> "$work/notes"; status=$?
 expect 'the empty text is refused' 2 'allsat: input refused: 4 NoHeader line 1' ''

@@ -11,8 +11,9 @@ saved text. About half of them are damaged
 then: bytes, tokens and lines are changed, added and taken away. The texts of the table in
 tools/test_checker.py are tried first. Compared are the status, the note with the refusal's
 number, name and line, and the listing: its form, its order, and that it holds exactly the good
-assignments, none twice. It ends with status 0, or with status 1 and the first text on which
-program and checker differ.
+assignments, none twice. Each text is run at once, and once more under a small budget, again and
+again from what the run before saved. It ends with status 0, or with status 1 and the first text
+on which program and checker differ.
 """
 import random
 import subprocess
@@ -20,7 +21,7 @@ import sys
 from collections import Counter
 from pathlib import Path
 
-from check_listing import Wrong, check, read_listing
+from check_listing import Tables, Wrong, check, check_form, extending, read_listing
 from dimacs import NUMBERS, Refused, read
 from test_checker import TABLE, text_of
 
@@ -266,11 +267,27 @@ def random_text(choose):
     return text
 
 
+def check_resumed(formula, cubes):
+    """The listing of a run that went on from a saved text, whose lines may say anything: each
+    assignment lies in so many cubes as it does in saved cubes, and, where it is good, in prefixes
+    that were pending."""
+    check_form(formula.shown, cubes, strictly=False)
+    saved, pending = formula.saved
+    clauses = formula.clauses + [[literal] for literal in formula.under]
+    used = {abs(literal) for literals in clauses + cubes + saved + pending for literal in literals}
+    tables = Tables(sorted(used & set(formula.shown)))
+    good = extending(clauses, tables, tables.all)
+    for place in range(1 << len(tables.variables)):
+        bit = 1 << place
+        wanted = sum(1 for cube in saved if tables.cube(cube) & bit)
+        if good & bit:
+            wanted += sum(1 for prefix in pending if tables.cube(prefix) & bit)
+        if wanted != sum(1 for cube in cubes if tables.cube(cube) & bit):
+            raise Wrong("so many cubes do not hold `%s`" % tables.first(bit))
+
+
 def difference(said, ran):
-    """What the run does otherwise than the checker says, or None. No run goes on from a saved text
-    yet: it is refused by the name that says so."""
-    if not isinstance(said, Refused) and said.saved is not None:
-        said = Refused("NotBuilt", 1)
+    """What the run does otherwise than the checker says, or None."""
     if isinstance(said, Refused):
         if (ran.returncode, ran.stdout, ran.stderr) == (2, b"", said.note().encode() + b"\n"):
             return None
@@ -278,22 +295,40 @@ def difference(said, ran):
     if (ran.returncode, ran.stderr) != (0, b""):
         return "the checker accepts the text"
     try:
-        check(said, read_listing(ran.stdout))
+        cubes = read_listing(ran.stdout)
+        check_resumed(said, cubes) if said.saved else check(said, cubes)
     except Wrong as wrong:
         return "the listing is wrong: %s" % wrong
     return None
 
 
-def try_text(name, text, said):
-    """Runs the program on the text, and ends the script where it does otherwise than it has to."""
-    ran = subprocess.run([PROGRAM, "enumerate"], input=text, capture_output=True, timeout=120)
-    found = difference(said, ran)
-    if found:
-        print("wrong: %s: %r" % (name, text))
-        print(found)
-        answer = (ran.returncode, ran.stderr, ran.stdout)
-        print("the program: status %d, notes %r, listing %r" % answer)
-        sys.exit(1)
+def run_program(text, *options):
+    words = [PROGRAM, "enumerate", *options]
+    return subprocess.run(words, input=text, capture_output=True, timeout=120)
+
+
+def run_in_steps(text, budget):
+    """The last of a row of runs with a budget, each of which goes on from the text of the one
+    before."""
+    for _ in range(10_000):
+        ran = run_program(text, "--budget", str(budget))
+        if (ran.returncode, ran.stderr) != (3, b"allsat: budget spent\n"):
+            return ran
+        text = ran.stdout
+    raise SystemExit("wrong: a run with a budget of %d does not come to an end" % budget)
+
+
+def try_text(name, text, said, budget):
+    """Runs the program on the text, at once and in steps, and ends the script where it does
+    otherwise than it has to."""
+    for ran in (run_program(text), run_in_steps(text, budget)):
+        found = difference(said, ran)
+        if found:
+            print("wrong: %s: %r" % (name, text))
+            print(found)
+            answer = (ran.returncode, ran.stderr, ran.stdout)
+            print("the program: status %d, notes %r, listing %r" % answer)
+            sys.exit(1)
 
 
 def main():
@@ -302,13 +337,13 @@ def main():
     build = [TOP / "allsat", "enumerate"]
     subprocess.run(build, input=b"p cnf 0 0\n", stdout=subprocess.DEVNULL, check=True)
     for lines, _ in TABLE:
-        try_text("a text of the table", text_of(lines), read(text_of(lines)))
+        try_text("a text of the table", text_of(lines), read(text_of(lines)), 1)
     kinds = Counter()
     for place in range(1, count + 1):
         choose = random.Random("%d of seed %d" % (place, seed))
         text = random_text(choose)
         said = read(text)
-        try_text("text %d of seed %d" % (place, seed), text, said)
+        try_text("text %d of seed %d" % (place, seed), text, said, choose.choice([1, 2, 3, 7]))
         kinds[said.name if isinstance(said, Refused) else None] += 1
     accepted = kinds.pop(None, 0)
     missing = [name for name in NOTED if name not in kinds]

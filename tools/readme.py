@@ -1,9 +1,10 @@
 #!/usr/bin/env python3
 """Runs each command of README.md that calls ./allsat, as it is written there, and compares.
 
-A command is an indented line with `./allsat` in it; what README shows of its output are the
-indented lines of the next block that begin with `v `, `f ` or `s `. A listing that README does
-not show is checked by tools/check_listing.py, where the command reads a file of examples/.
+A command is an indented line with `./allsat` in it; what README shows of its output is the next
+indented block, if it begins as an output does. A saved text goes with status 3, all else with 0.
+A listing that README does not show is checked by tools/check_listing.py, where the command reads a
+file of examples/.
 Run it at the top: tools/readme.py [README.md]. Each wrong command is a line; the status is 1 then.
 """
 
@@ -19,9 +20,9 @@ def commands(lines):
             continue
         shown = []
         for later in lines[place + 1:]:
-            if re.match(r'    [vfs] ', later):
+            if re.match(r'    [vfs] |    c allsat saved ', later) or (shown and later.startswith('    ')):
                 shown.append(later.strip())
-            elif later.strip():
+            elif shown or later.strip():
                 break
         yield line.split('  #')[0].strip(), shown or None
 
@@ -33,7 +34,8 @@ def run(command):
 def wrong_with(command, shown):
     """What is wrong with a command, or None."""
     ran = run(command)
-    if ran.returncode != 0:
+    wanted = 3 if shown and shown[0].startswith('c allsat saved') else 0
+    if ran.returncode != wanted:
         return f'status {ran.returncode}: {ran.stderr.strip()}'
     if shown is not None:
         return None if ran.stdout.split('\n')[:-1] == shown else f'it prints {ran.stdout!r}'
