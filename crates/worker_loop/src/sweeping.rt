@@ -45,6 +45,8 @@ pub fn sweep(
     ensures ends { IfOk result (EndsSweep allowance book.new) }
     ensures allowed { IsAllowed allowance (state_of book.old).spent →
         IsAllowed allowance (state_of book.new).spent }
+    ensures untouched { is_spent allowance (state_of book.old).spent ≡ true →
+        book.new ≡ book.old }
     ensures rests { IsBetweenJobs book.new engine.new }
     ensures grows { GrowsFrom book.old book.new }
 {
