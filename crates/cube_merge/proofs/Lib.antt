@@ -1,0 +1,6 @@
+mod Checked
+mod Fronts
+mod Gathered
+mod Merged
+mod Named
+mod Ranks
