@@ -14,7 +14,7 @@ use Rattle.search_job.proofs.Weights.{weight_some, weights-append}
 use Rattle.sat_terms.specs.Subjects.{IsShown}
 use Rattle.prefix_jobs.proofs.Space.{apart_cubes_weigh_little}
 use Rattle.checkpoint.specs.declared.saved.Saved.{Saved}
-use Rattle.region_book.specs.declared.pending.Pending.{Pending}
+use Rattle.region_book.specs.Machine.{Pending}
 use Rattle.region_book.specs.Machine.{prefixes_of, numbered, AreLegal}
 use Rattle.region_book.specs.Partition.{IsPartition}
 use Rattle.region_book.specs.Starts.{start_of, CanBegin}

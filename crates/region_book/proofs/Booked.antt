@@ -1,11 +1,12 @@
 -- A book after one event more.
-use Rattle.std.proofs.Common.{◌≡◌, ◌≢◌, ℕ, suc, ◌+◌, ◌<◌, ◌^◌, Bool, true, false, not, is_some, is_none, List, [], ◌∷◌, ◌++◌, length, ℤ, Option, Some, None, Result, Ok, Err, IfOk, IfErr, refl, sym, ap, ap₂, subst, subst₂, ◌∙◌, add-one, arith, lit<}
+use Rattle.std.proofs.Common.{◌≡◌, ◌≢◌, ℕ, suc, ◌+◌, ◌<◌, ◌^◌, Bool, true, false, not, is_some, is_none, is_lt, List, [], ◌∷◌, ◌++◌, filter, map, length, get_or, ℤ, Option, Some, None, Result, Ok, Err, IfOk, IfErr, refl, sym, ap, ap₂, subst, ◌∙◌, inl, inr, arith, lit<}
 use Rattle.std.specs.declared.alloc.AllocError.{AllocError}
-use Rattle.std.specs.List.{All, find}
-use Rattle.std.proofs.lemmas.Bool.{both_ways}
-use Rattle.std.proofs.lemmas.List.{length_push}
+use Rattle.std.specs.List.{All, find, list_any}
+use Rattle.std.proofs.lemmas.Bool.{both_ways, cases_Bool}
+use Rattle.std.proofs.lemmas.List.{length-map, get_or-map}
 use Rattle.std.proofs.lemmas.List.Elements.{All-head}
 use Rattle.prefix_jobs.specs.declared.number.Number.{Number}
+use Rattle.prefix_jobs.specs.declared.outcome.Outcome.{Outcome}
 use Rattle.region_book.specs.declared.answers.Taken.{Taken}
 use Rattle.region_book.specs.declared.answers.Taken.TheVariants.{Held, Gone}
 use Rattle.region_book.specs.declared.event.Event.TheVariants.{Take}
@@ -13,20 +14,30 @@ use Rattle.sat_terms.specs.declared.subject.Subject.{Subject}
 use Rattle.checkpoint.specs.declared.saved.Saved.{Saved}
 use Rattle.region_book.specs.declared.event.Event.{Event}
 use Rattle.region_book.specs.declared.pages.Pages.{Pages}
-use Rattle.region_book.specs.declared.pending.Pending.{Pending}
-use Rattle.region_book.specs.Machine.{BookState, is_free, step, steps_from, start_from, numbered, IsLegalAt, AreLegal}
+use Rattle.region_book.specs.Machine.{Pending}
+use Rattle.region_book.specs.Machine.{BookState, prefixes_of, is_free, is_held_by, FitsFound, step, steps_from, numbered, IsLegalAt, AreLegal}
 use Rattle.std.specs.List.Sorted.{IsPermutation, IsSorted}
 use Rattle.std.proofs.lemmas.List.Sorted.{IsPermutation-map}
 use Rattle.sat_terms.specs.CubeOrder.{cube_order}
 use Rattle.region_book.specs.Arranged.{prefix_order, KeepsArranged}
-use Rattle.region_book.specs.Found.{brought_by, cube_at, named_cubes, places_from, found_order, AreEntered}
-use Rattle.region_book.proofs.Named.{named_more, named_sorted, entered_more, places_name, places_entered}
+use Rattle.cube_merge.specs.Names.{name_order}
+use Rattle.region_book.specs.declared.found_at.FoundAt.{FoundAt}
+use Rattle.region_book.specs.declared.slot.Slot.{Slot}
+use Rattle.region_book.specs.declared.slot.Standing.TheVariants.{Free}
+use Rattle.region_book.specs.Found.{saved_cubes, cube_at, named_cubes}
+use Rattle.region_book.specs.Prefixes.{first_prefixes, prefix_at}
+use Rattle.region_book.specs.Slots.{is_live, is_held_slot, live_of, pending_of}
+use Rattle.region_book.proofs.Named.{named_more, places_name}
+use Rattle.region_book.proofs.Left.{older_live, names_left, first_live}
+use Rattle.region_book.proofs.Live.{none_live, mirrors_held}
 use Rattle.region_book.proofs.Paged.{book_state}
-use Rattle.region_book.specs.Pages.{state_with, state_of_pages, held_count, IsSame, Enters, TakesPrefix, prefix_of}
+use Rattle.region_book.specs.Pages.{state_with, state_of_pages, ArePages, BeginsWith, IsSame, Enters, TakesPrefix, IsHeldIn, prefix_of}
 use Rattle.region_book.specs.Starts.{start_of, CanBegin}
-use Rattle.region_book.specs.Books.{BookView, book_view, replay, with_event, IsBook}
-use Rattle.region_book.proofs.Holders.{held_none_numbered}
-use Rattle.region_book.proofs.Numbered.{length-numbered}
+use Rattle.region_book.specs.Books.{BookView, book_view, replay, with_event, state_of, IsBook}
+
+pub length-numbered : (j i : ℕ) (cs : List (List ℤ)) → length (numbered j i cs) ≡ length cs
+length-numbered j i [] = refl
+length-numbered j i (c ∷ cs) = ap suc (length-numbered j (suc i) cs)
 
 steps-append : (j m : ℕ) (events : List Event) (e : Event) (s : BookState) → m ≡ length events + j → steps_from j (events ++ e ∷ []) s ≡ step m e (steps_from j events s)
 steps-append j m [] e s same = let here : j ≡ m = omega arith in ap (λ x. step x e s) here
@@ -40,37 +51,35 @@ module _ (f : List (List ℤ)) (p : List ℕ) where
 abbrev pub view_with : Subject → Option Saved → ℕ → List Event → BookView
 view_with subject saved passes journal = record { subject = subject; saved = saved; passes = passes; journal = journal }
 
-pub state_same : (saved : Option Saved) (old new : Pages) → IsSame old new → state_of_pages saved new ≡ state_of_pages saved old
-state_same saved old new same =
-    ap₂ (λ events found. state_with (named_cubes saved events found) new) same.journal same.published
-    ∙ ap₂ (λ pending spent. book_state (named_cubes saved old.journal.items old.published.items) pending spent) same.pending same.spent
+pub state_same : (subject : Subject) (saved : Option Saved) (old new : Pages) → IsSame old new → state_of_pages subject saved new ≡ state_of_pages subject saved old
+state_same subject saved old new same =
+    ap₂ (λ events found. state_with (prefix_at subject saved events) (named_cubes saved events found) new) same.journal same.published
+    ∙ ap₂ (λ slots spent. book_state (named_cubes saved old.journal.items old.published.items) (live_of (prefix_at subject saved old.journal.items) slots) spent) same.slots same.spent
 
 module _ (subject : Subject) (saved : Option Saved) (passes : ℕ) (old new : Pages) (book : IsBook subject saved passes old) where
   pub same_book : IsSame old new → IsBook subject saved passes new
   same_book same = record {
     begins = book.begins;
-    state = ap (replay subject saved) same.journal ∙ book.state ∙ sym (state_same saved old new same);
-    entered = subst₂ AreEntered (sym (ap length same.journal)) (sym same.published) book.entered;
+    state = ap (replay subject saved) same.journal ∙ book.state ∙ sym (state_same subject saved old new same);
     legal = subst (λ x. AreLegal subject.formula.clauses subject.shown 1 x (start_of subject saved)) (sym same.journal) book.legal;
-    room = same.room;
+    kept = same.pages;
   }
 
-  pub entered_book : (e : Event) → Enters e old new → IsLegalAt subject.formula.clauses subject.shown e (state_of_pages saved old) → IsBook subject saved passes new
+  pub entered_book : (e : Event) → Enters e old new → IsLegalAt subject.formula.clauses subject.shown e (state_of_pages subject saved old) → IsBook subject saved passes new
   entered_book e enters legal = record {
     begins = book.begins;
     state =
         ap (replay subject saved) enters.journal
         ∙ steps-append 1 (suc (length old.journal.items)) old.journal.items e (start_of subject saved) (omega arith)
         ∙ ap (step (suc (length old.journal.items)) e) book.state
-        ∙ sym (enters.state (named_cubes saved old.journal.items old.published.items))
-        ∙ ap (λ cubes. state_with cubes new) (sym (named_more saved old.journal.items e old.published.items book.entered))
-        ∙ ap₂ (λ events found. state_with (named_cubes saved events found) new) (sym enters.journal) (sym enters.published);
-    entered = subst₂ AreEntered (sym (add-one (length old.journal.items)) ∙ sym (length_push old.journal.items e) ∙ sym (ap length enters.journal)) (sym enters.published)
-        (entered_more (length old.journal.items) (length (brought_by e)) old.published.items book.entered);
+        ∙ ap (λ ps. step (suc (length old.journal.items)) e (book_state (named_cubes saved old.journal.items old.published.items) ps old.spent)) (sym (older_live subject saved old.journal.items e old.slots.slots.items book.kept.placed))
+        ∙ sym (enters.state (prefix_at subject saved (old.journal.items ++ e ∷ [])) (named_cubes saved old.journal.items old.published.items) (names_left subject saved old.journal.items e))
+        ∙ ap (λ cubes. state_with (prefix_at subject saved (old.journal.items ++ e ∷ [])) cubes new) (sym (named_more saved old.journal.items e old.published.items book.kept.entered))
+        ∙ ap₂ (λ events found. state_with (prefix_at subject saved events) (named_cubes saved events found) new) (sym enters.journal) (sym enters.published);
     legal = subst (λ x. AreLegal subject.formula.clauses subject.shown 1 x (start_of subject saved)) (sym enters.journal)
         (legal-append subject.formula.clauses subject.shown 1 old.journal.items e (start_of subject saved) book.legal
         (subst (IsLegalAt subject.formula.clauses subject.shown e) (sym book.state) legal));
-    room = enters.room;
+    kept = enters.pages;
   }
 
   pub same_view : IsSame old new → book_view subject saved passes new ≡ book_view subject saved passes old
@@ -80,8 +89,8 @@ module _ (subject : Subject) (saved : Option Saved) (passes : ℕ) (old new : Pa
   entered_view e enters = ap (view_with subject saved passes) enters.journal
 
   -- a take, whatever it answers
-  pub taken_book : (k : ℕ) (n : Number) (r : Result Taken AllocError) → IfOk r (λ taken. TakesPrefix old new k n taken) → IfErr r (λ _. IsSame old new) → IsBook subject saved passes new
-  taken_book k n (Ok (Held c)) takes none = entered_book (Take k n) takes.0 (found_is_free (find (is_free n) old.pending.items) takes.1)
+  pub taken_book : (k : ℕ) (n : Number) (r : Result Taken AllocError) → IfOk r (λ taken. TakesPrefix subject saved old new k n taken) → IfErr r (λ _. IsSame old new) → IsBook subject saved passes new
+  taken_book k n (Ok (Held c)) takes none = entered_book (Take k n) takes.0 (found_is_free (find (is_free n) (state_of_pages subject saved old).pending) takes.1)
     where
       found_is_free : (o : Option Pending) → prefix_of o ≡ Some c → o ≢ None
       found_is_free None e = absurd (let bad : None ≡ Some c = e in cc)
@@ -95,18 +104,26 @@ pub few_start : (subject : Subject) (saved : Option Saved) (passes : ℕ) → Ca
 few_start subject None passes can = lit< tt
 few_start subject (Some lines) passes can = let few = (can.saved_is lines refl).few in let long = length-numbered 0 0 lines.pending in omega arith
 
-held_none_start : (subject : Subject) (saved : Option Saved) → held_count (start_of subject saved).pending ≡ 0
-held_none_start subject None = refl
-held_none_start subject (Some lines) = held_none_numbered 0 0 lines.pending
-
-pub new_book : (subject : Subject) (saved : Option Saved) (passes : ℕ) (pages : Pages) → CanBegin subject saved passes → pages.journal.items ≡ [] → state_of_pages saved pages ≡ start_of subject saved → AreEntered 0 pages.published.items → IsBook subject saved passes pages
-new_book subject saved passes pages can none begun entered = record {
+pub new_book : (subject : Subject) (saved : Option Saved) (passes : ℕ) (pages : Pages) → CanBegin subject saved passes → pages.journal.items ≡ [] → state_of_pages subject saved pages ≡ start_of subject saved → ArePages pages → IsBook subject saved passes pages
+new_book subject saved passes pages can none begun are = record {
   begins = can;
   state = ap (replay subject saved) none ∙ sym begun;
-  entered = subst (λ m. AreEntered m pages.published.items) (sym (ap length none)) entered;
   legal = subst (λ x. AreLegal subject.formula.clauses subject.shown 1 x (start_of subject saved)) (sym none) tt;
-  room = (let empty = ap length none in let free = ap (λ (s : BookState). held_count s.pending) begun ∙ held_none_start subject saved in omega arith);
+  kept = are;
 }
+
+-- what it begins with
+start_lists : (subject : Subject) (saved : Option Saved) → book_state (saved_cubes saved) (numbered 0 0 (first_prefixes subject saved)) 0 ≡ start_of subject saved
+start_lists subject None = refl
+start_lists subject (Some lines) = refl
+
+pub begun_state : (subject : Subject) (saved : Option Saved) (pages : Pages) → BeginsWith (length (saved_cubes saved)) (length (first_prefixes subject saved)) pages → state_of_pages subject saved pages ≡ start_of subject saved
+begun_state subject saved pages begins =
+    ap₂ (λ events found. state_with (prefix_at subject saved events) (named_cubes saved events found) pages) begins.journal begins.published
+    ∙ ap (λ cubes. state_with (prefix_at subject saved []) cubes pages) (places_name saved [] 0 0 [] (saved_cubes saved) refl refl)
+    ∙ ap₂ (λ slots spent. book_state (saved_cubes saved) (live_of (prefix_at subject saved []) slots) spent) begins.slots begins.spent
+    ∙ ap (λ ps. book_state (saved_cubes saved) ps 0) (first_live subject saved)
+    ∙ start_lists subject saved
 
 -- where none is held and none is free, none is pending
 pub none_pending : (ps : List Pending) → All (λ q. is_none q.holder ≡ false) ps → All (λ q. is_some q.holder ≡ false) ps → ps ≡ []
@@ -119,31 +136,62 @@ none_pending (q ∷ ps) held free = absurd (both (is_some q.holder) (All-head (�
 
 -- ---- in order
 
-pub arranges : (subject : Subject) (saved : Option Saved) (passes : ℕ) (old new : Pages) → IsBook subject saved passes old → new.journal.items ≡ old.journal.items → new.spent ≡ old.spent →
-    IsPermutation old.published.items new.published.items → IsPermutation old.pending.items new.pending.items →
-    IsSorted (found_order saved old.journal.items) new.published.items → IsSorted prefix_order new.pending.items → KeepsArranged subject saved passes new
-arranges subject saved passes old new book same_journal same_spent found prefixes found_sorted prefixes_sorted =
-    let state : replay subject saved new.journal.items ≡ state_of_pages saved old = ap (replay subject saved) same_journal ∙ book.state in
-    record {
-      arranged = record {
-        published = subst₂ (λ x events. IsPermutation x (named_cubes saved events new.published.items)) (sym (ap (λ (s : BookState). s.published) state)) (sym same_journal)
-            (IsPermutation-map (cube_at saved old.journal.items) old.published.items new.published.items found);
-        pending = subst (λ x. IsPermutation x new.pending.items) (sym (ap (λ (s : BookState). s.pending) state)) prefixes;
-        published_sorted = subst (λ events. IsSorted cube_order (named_cubes saved events new.published.items)) (sym same_journal)
-            (named_sorted saved old.journal.items new.published.items found_sorted);
-        pending_sorted = prefixes_sorted;
-      };
-      legal = subst (λ events. AreLegal subject.formula.clauses subject.shown 1 events (start_of subject saved)) (sym same_journal) book.legal;
-      spent = same_spent ∙ sym (ap (λ (s : BookState). s.spent) state);
-    }
+pub named_sorted : (saved : Option Saved) (events : List Event) (found : List FoundAt) → IsSorted (name_order (cube_at saved events)) found → IsSorted cube_order (named_cubes saved events found)
+named_sorted saved events found sorted k d low high =
+    let f = cube_at saved events in
+    let a : FoundAt = record { place = 0; index = 0 } in
+    let long = length-map found f in
+    ap₂ (λ x y. is_lt (cube_order x y)) (get_or-map f found (k + 1) a d (omega arith)) (get_or-map f found k a d (omega arith)) ∙ sorted k a low (omega arith)
 
--- what was saved is published where it stands
-pub saved_state : (lines : Saved) (pages : Pages) → pages.journal.items ≡ [] → pages.published.items ≡ places_from 0 0 (length lines.cubes) → pages.pending.items ≡ numbered 0 0 lines.pending → pages.spent ≡ 0 →
-    state_of_pages (Some lines) pages ≡ start_from lines.cubes lines.pending
-saved_state lines pages none found pending spent =
-    ap₂ (λ events places. state_with (named_cubes (Some lines) events places) pages) none found
-    ∙ ap (λ cubes. state_with cubes pages) (places_name (Some lines) [] 0 0 [] lines.cubes refl refl)
-    ∙ ap₂ (book_state lines.cubes) pending spent
+pub pending_sorted : (prefixes : Number → List ℤ) (slots : List Slot) → IsSorted (name_order (λ s. prefixes s.number)) slots → IsSorted prefix_order (map (pending_of prefixes) slots)
+pending_sorted prefixes slots sorted k d low high =
+    let f = pending_of prefixes in
+    let a : Slot = record { number = d.number; standing = Free } in
+    let long = length-map slots f in
+    ap₂ (λ x y. is_lt (prefix_order x y)) (get_or-map f slots (k + 1) a d (omega arith)) (get_or-map f slots k a d (omega arith)) ∙ sorted k a low (omega arith)
 
-pub saved_entered : (lines : Saved) (pages : Pages) → pages.published.items ≡ places_from 0 0 (length lines.cubes) → AreEntered 0 pages.published.items
-saved_entered lines pages found = subst (AreEntered 0) (sym found) (places_entered 0 0 0 (length lines.cubes) (omega arith))
+pub arranges : (subject : Subject) (saved : Option Saved) (passes : ℕ) (old : Pages) (found : List FoundAt) (slots : List Slot) → IsBook subject saved passes old →
+    IsPermutation old.published.items found → IsSorted (name_order (cube_at saved old.journal.items)) found →
+    IsPermutation (filter is_live old.slots.slots.items) slots → IsSorted (name_order (λ s. prefix_at subject saved old.journal.items s.number)) slots →
+    KeepsArranged subject saved passes old.journal.items found slots old.spent
+arranges subject saved passes old found slots book same_found found_sorted same_slots slots_sorted = record {
+  arranged = record {
+    published = subst (λ x. IsPermutation x (named_cubes saved old.journal.items found)) (sym (ap (λ (s : BookState). s.published) book.state))
+        (IsPermutation-map (cube_at saved old.journal.items) old.published.items found same_found);
+    pending = subst (λ x. IsPermutation x (map (pending_of (prefix_at subject saved old.journal.items)) slots)) (sym (ap (λ (s : BookState). s.pending) book.state))
+        (IsPermutation-map (pending_of (prefix_at subject saved old.journal.items)) (filter is_live old.slots.slots.items) slots same_slots);
+    published_sorted = named_sorted saved old.journal.items found found_sorted;
+    pending_sorted = pending_sorted (prefix_at subject saved old.journal.items) slots slots_sorted;
+  };
+  legal = book.legal;
+  spends = sym (ap (λ (s : BookState). s.spent) book.state);
+}
+
+-- where one passes, one is found
+pub some_found : (test : Pending → Bool) (ps : List Pending) → list_any test ps ≡ true → find test ps ≢ None
+some_found test [] h none = both_ways false refl h
+some_found test (q ∷ ps) h none = elim (cases_Bool (test q)) [
+  | inl e ↦ (let bad : Some q ≡ None = rw e at none in cc)
+  | inr e ↦ some_found test ps (rw e at h) (rw e at none)
+]
+
+-- what the pass holds, some slot says
+pub held_in : (k : ℕ) (n : Number) (subject : Subject) (saved : Option Saved) (passes : ℕ) (pages : Pages) (v : BookView) → book_view subject saved passes pages ≡ v → IsBook subject saved passes pages →
+    find (is_held_by k n) (state_of v).pending ≢ None → IsHeldIn k n pages
+held_in k n subject saved passes pages v view book some none =
+    subst (λ (x : BookView). find (is_held_by k n) (state_of x).pending ≢ None) (sym view) some
+    (ap (λ (s : BookState). find (is_held_by k n) s.pending) book.state
+    ∙ none_live (prefix_at subject saved pages.journal.items) (is_held_slot k n) (is_held_by k n) (mirrors_held (prefix_at subject saved pages.journal.items) k n) pages.slots.slots.items none)
+
+-- the prefix of a slot
+pub prefix_read : (prefixes : Number → List ℤ) (slots : List Slot) (i : ℕ) (slot : Slot) → slot ≡ get_or slots i slot → i < length slots → prefixes slot.number ≡ get_or (prefixes_of (map (pending_of prefixes) slots)) i []
+prefix_read prefixes slots i slot here inside =
+    let long = length-map slots (pending_of prefixes) in
+    sym (get_or-map (λ (q : Pending). q.prefix) (map (pending_of prefixes) slots) i (pending_of prefixes slot) [] (omega arith)
+    ∙ ap (λ (q : Pending). q.prefix) (get_or-map (pending_of prefixes) slots i slot (pending_of prefixes slot) inside)
+    ∙ ap (λ (s : Slot). prefixes s.number) (sym here))
+
+-- an outcome that fits is of a prefix that was found
+pub fits_some : (f : List (List ℤ)) (p : List ℕ) (found : Option Pending) (o : Outcome) → FitsFound f p found o → found ≢ None
+fits_some f p None o fits = absurd fits
+fits_some f p (Some q) o fits = λ none. (let bad : Some q ≡ None = none in cc)

@@ -5,7 +5,7 @@ use Rattle.std.proofs.lemmas.Bool.{cases_Bool, and_parts}
 use Rattle.std.proofs.lemmas.List.Elements.{filter-append}
 use Rattle.prefix_jobs.specs.declared.number.Number.{Number}
 use Rattle.prefix_jobs.specs.declared.outcome.Outcome.{Outcome}
-use Rattle.region_book.specs.declared.pending.Pending.{Pending}
+use Rattle.region_book.specs.Machine.{Pending}
 use Rattle.region_book.specs.Machine.{has_number, is_pass, is_held_by, edit_first, let_go, taken_out, numbered, kept_part, parts_of}
 use Rattle.region_book.specs.Pages.{held_count}
 use Rattle.region_book.proofs.Found.{Splits, found_splits}

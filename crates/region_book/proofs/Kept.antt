@@ -23,7 +23,7 @@ use Rattle.prefix_jobs.specs.declared.outcome.Outcome.{Outcome}
 use Rattle.prefix_jobs.specs.Outcomes.{open_parts, FitsPrefix}
 use Rattle.region_book.specs.declared.event.Event.{Event}
 use Rattle.region_book.specs.declared.event.Event.TheVariants.{Take, Report, Release}
-use Rattle.region_book.specs.declared.pending.Pending.{Pending}
+use Rattle.region_book.specs.Machine.{Pending}
 use Rattle.region_book.specs.Machine.{BookState, prefixes_of, is_free, is_held_by, edit_first, taken_by, let_go, taken_out, numbered, kept_part, parts_of, reported, step, steps_from, FitsFound, IsLegalAt, AreLegal}
 use Rattle.region_book.specs.Partition.{IsPartition}
 use Rattle.region_book.specs.Laws.{KeepsPartition}

@@ -2,16 +2,16 @@ pub mod Arranging
 mod Begin
 mod Booked
 mod Found
-mod Fronts
 mod Holders
 mod Kept
-mod Least
+mod Left
+mod Live
 mod Named
-mod Numbered
 mod Numbers
-mod Others
+pub mod Others
+pub mod Owned
 mod Paged
-mod Places
-mod Ranks
+pub mod Prefixes
+mod Rising
 mod Script
 mod Whole

@@ -1,14 +1,12 @@
 -- What the places of published cubes name, before and after an event.
-use Rattle.std.proofs.Common.{◌≡◌, ℕ, zero, suc, ◌+◌, ◌<◌, ◌≤◌, List, [], ◌∷◌, ◌++◌, map, length, get_or, ℤ, Option, is_lt, refl, sym, ap, ap₂, ◌∙◌, arith}
-use Rattle.std.specs.List.Sorted.{IsSorted}
-use Rattle.std.proofs.lemmas.List.{map-append, length-map, get_or-map, get_or_append_left, length_push}
+use Rattle.std.proofs.Common.{◌≡◌, ℕ, zero, suc, ◌+◌, ◌≤◌, List, [], ◌∷◌, ◌++◌, map, length, get_or, ℤ, Option, refl, sym, ap, ap₂, ◌∙◌, arith}
+use Rattle.std.proofs.lemmas.List.{map-append, length-map, get_or_append_left, length_push}
 use Rattle.std.proofs.lemmas.List.Elements.{All-head, All-tail, All-cons, All-append, All-weaker}
 use Rattle.std.proofs.Math.Seq.{get_or-append_seam}
-use Rattle.sat_terms.specs.CubeOrder.{cube_order}
 use Rattle.checkpoint.specs.declared.saved.Saved.{Saved}
 use Rattle.region_book.specs.declared.event.Event.{Event}
 use Rattle.region_book.specs.declared.found_at.FoundAt.{FoundAt}
-use Rattle.region_book.specs.Found.{brought_by, cubes_at, cube_at, named_cubes, places_from, AreEntered, found_order}
+use Rattle.region_book.specs.Found.{brought_by, cubes_at, cube_at, named_cubes, places_from, AreEntered}
 
 -- ---- an event appended leaves what older places name
 
@@ -70,14 +68,3 @@ entered_more m n found entered =
     All-append (λ a. a.place ≤ suc m) found (places_from (suc m) 0 n)
     (All-weaker (λ a. a.place ≤ m) (λ a. a.place ≤ suc m) (λ a h. omega arith) found entered)
     (places_entered (suc m) (suc m) 0 n (omega arith))
-
--- ---- places in the order of what they name
-
-pub named_sorted : (saved : Option Saved) (events : List Event) (found : List FoundAt) → IsSorted (found_order saved events) found → IsSorted cube_order (named_cubes saved events found)
-named_sorted saved events found sorted k d low high =
-    let f = cube_at saved events in
-    let a : FoundAt = record { place = 0; index = 0 } in
-    let long = length-map found f in
-    let inside : k + 1 < length found = omega arith in
-    let before : k < length found = omega arith in
-    ap₂ (λ x y. is_lt (cube_order x y)) (get_or-map f found (k + 1) a d inside) (get_or-map f found k a d before) ∙ sorted k a low inside

@@ -7,7 +7,7 @@ use Rattle.prefix_jobs.specs.declared.number.Number.{Number}
 use Rattle.prefix_jobs.specs.declared.outcome.Outcome.{Outcome}
 use Rattle.region_book.specs.declared.event.Event.{Event}
 use Rattle.region_book.specs.declared.event.Event.TheVariants.{Take, Report, Release}
-use Rattle.region_book.specs.declared.pending.Pending.{Pending}
+use Rattle.region_book.specs.Machine.{Pending}
 use Rattle.region_book.specs.Machine.{BookState, has_number, is_free, is_held_by, edit_first, taken_by, let_go, taken_out, numbered, kept_part, parts_of, reported, step, steps_from, start_from}
 use Rattle.region_book.specs.Laws.{AreNumbered}
 use Rattle.region_book.proofs.Found.{All-edited}

@@ -7,7 +7,7 @@ use Rattle.prefix_jobs.specs.declared.number.Number.{Number}
 use Rattle.prefix_jobs.specs.declared.outcome.Outcome.{Outcome}
 use Rattle.region_book.specs.declared.event.Event.{Event}
 use Rattle.region_book.specs.declared.event.Event.TheVariants.{Take, Report, Release}
-use Rattle.region_book.specs.declared.pending.Pending.{Pending}
+use Rattle.region_book.specs.Machine.{Pending}
 use Rattle.region_book.specs.Machine.{BookState, has_number, is_pass, is_free, is_held_by, held_by, edit_first, taken_by, let_go, taken_out, numbered, kept_part, parts_of, reported, step, steps_from, pass_of}
 
 module _ (h : ℕ) where
@@ -27,7 +27,7 @@ module _ (h : ℕ) where
   pass_is_other k other None e = refl
   pass_is_other k other (Some j) e = ap (λ x. nat_eq x h) (eqb-true j k e) ∙ other
 
-  numbered_is_free : (j i : ℕ) (cs : List (List ℤ)) → held_by h (numbered j i cs) ≡ []
+  pub numbered_is_free : (j i : ℕ) (cs : List (List ℤ)) → held_by h (numbered j i cs) ≡ []
   numbered_is_free j i [] = refl
   numbered_is_free j i (c ∷ cs) = numbered_is_free j (suc i) cs
 

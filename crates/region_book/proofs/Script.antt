@@ -9,7 +9,7 @@ use Rattle.sat_terms.specs.Literals.{IsLiteralOf}
 use Rattle.sat_terms.specs.Assignments.{IsGood, assignment_of, lies_in}
 use Rattle.sat_terms.specs.Cubes.{IsCube, apart, within}
 use Rattle.prefix_jobs.specs.Outcomes.{FitsPrefix}
-use Rattle.region_book.specs.declared.pending.Pending.{Pending}
+use Rattle.region_book.specs.Machine.{Pending}
 use Rattle.region_book.specs.Partition.{IsPartition}
 use Rattle.region_book.specs.Starts.{AreSavedLines, CanBegin}
 use Rattle.sat_terms.specs.Subjects.{IsSubject}

@@ -1,16 +1,20 @@
 -- What contracts see of a book whose lists are in order.
-use Rattle.std.specs.Prelude.{◌≡◌, ℕ, List, ℤ, Option}
+use Rattle.std.specs.Prelude.{◌≡◌, ℕ, List, map, ℤ, Option}
 use Rattle.std.specs.List.Sorted.{IsPermutation, IsSorted}
 use Rattle.std.specs.declared.cmp.Ordering.{Ordering}
 use Rattle.sat_terms.specs.CubeOrder.{cube_order}
 use Rattle.sat_terms.specs.declared.subject.Subject.{Subject}
 use Rattle.checkpoint.specs.declared.saved.Saved.{Saved}
-use Rattle.region_book.specs.declared.pages.Pages.{Pages}
-use Rattle.region_book.specs.declared.pending.Pending.{Pending}
+use Rattle.region_book.specs.declared.event.Event.{Event}
+use Rattle.region_book.specs.declared.found_at.FoundAt.{FoundAt}
+use Rattle.region_book.specs.declared.slot.Slot.{Slot}
+use Rattle.region_book.specs.Machine.{Pending}
 use Rattle.region_book.specs.Found.{named_cubes}
 use Rattle.region_book.specs.Machine.{AreLegal}
+use Rattle.region_book.specs.Prefixes.{prefix_at}
+use Rattle.region_book.specs.Slots.{pending_of}
 use Rattle.region_book.specs.Starts.{start_of}
-use Rattle.region_book.specs.Books.{BookView, book_view, state_of}
+use Rattle.region_book.specs.Books.{BookView, book_of, replay, state_of}
 
 -- The book that it was, and its lists as they are now.
 pub record ArrangedView : Type 0 where
@@ -18,11 +22,12 @@ pub record ArrangedView : Type 0 where
   pub published : List (List ℤ)
   pub pending : List Pending
 
-abbrev pub arranged_view : Subject → Option Saved → ℕ → Pages → ArrangedView
-arranged_view subject saved passes pages = record {
-  book = book_view subject saved passes pages;
-  published = named_cubes saved pages.journal.items pages.published.items;
-  pending = pages.pending.items;
+abbrev pub arranged_view : Subject → Option Saved → ℕ → List Event → List FoundAt → List Slot →
+    ArrangedView
+arranged_view subject saved passes journal found slots = record {
+  book = book_of subject saved passes journal;
+  published = named_cubes saved journal found;
+  pending = map (pending_of (prefix_at subject saved journal)) slots;
 }
 
 -- Pending prefixes are ordered by their literals.
@@ -38,8 +43,7 @@ pub record IsArranged (a : ArrangedView) : Type 0 where
 
 -- What an arranged book keeps.
 pub record KeepsArranged (subject : Subject) (saved : Option Saved) (passes : ℕ)
-    (pages : Pages) : Type 0 where
-  pub arranged : IsArranged (arranged_view subject saved passes pages)
-  pub legal : AreLegal subject.formula.clauses subject.shown 1 pages.journal.items
-      (start_of subject saved)
-  pub spent : pages.spent ≡ (state_of (book_view subject saved passes pages)).spent
+    (journal : List Event) (found : List FoundAt) (slots : List Slot) (spent : ℕ) : Type 0 where
+  pub arranged : IsArranged (arranged_view subject saved passes journal found slots)
+  pub legal : AreLegal subject.formula.clauses subject.shown 1 journal (start_of subject saved)
+  pub spends : spent ≡ (replay subject saved journal).spent

@@ -13,11 +13,10 @@ use Rattle.region_book.specs.declared.answers.Progress.TheVariants.{Finished, He
 use Rattle.region_book.specs.declared.event.Event.{Event}
 use Rattle.region_book.specs.declared.event.Event.TheVariants.{Take, Report}
 use Rattle.region_book.specs.declared.pages.Pages.{Pages}
-use Rattle.region_book.specs.declared.pending.Pending.{Pending}
-use Rattle.region_book.specs.Found.{AreEntered}
+use Rattle.region_book.specs.Machine.{Pending}
 use Rattle.region_book.specs.Lowest.{IsLowestOf}
 use Rattle.region_book.specs.Machine.{BookState, is_free, steps_from, AreLegal}
-use Rattle.region_book.specs.Pages.{state_of_pages, HasReleaseRoom, prefix_of, report_answer}
+use Rattle.region_book.specs.Pages.{state_of_pages, ArePages, prefix_of, report_answer}
 use Rattle.region_book.specs.Starts.{start_of, CanBegin}
 
 -- What a book began with, and its events.
@@ -27,13 +26,16 @@ pub record BookView : Type 0 where
   pub passes : ℕ
   pub journal : List Event
 
-abbrev pub book_view : Subject → Option Saved → ℕ → Pages → BookView
-book_view subject saved passes pages = record {
+abbrev pub book_of : Subject → Option Saved → ℕ → List Event → BookView
+book_of subject saved passes journal = record {
   subject = subject;
   saved = saved;
   passes = passes;
-  journal = pages.journal.items;
+  journal = journal;
 }
+
+abbrev pub book_view : Subject → Option Saved → ℕ → Pages → BookView
+book_view subject saved passes pages = book_of subject saved passes pages.journal.items
 
 -- What the events made of the beginning.
 abbrev pub replay : Subject → Option Saved → List Event → BookState
@@ -46,16 +48,14 @@ state_of b = replay b.subject b.saved b.journal
 abbrev pub with_event : Event → BookView → BookView
 with_event e b = record b { journal = b.journal ++ e ∷ [] }
 
--- A book: its events were legal, the pages are what they made, and there is room to release what
--- is held.
+-- A book: its events were legal, and the pages are what they made.
 pub record IsBook (subject : Subject) (saved : Option Saved) (passes : ℕ)
     (pages : Pages) : Type 0 where
   pub begins : CanBegin subject saved passes
-  pub state : replay subject saved pages.journal.items ≡ state_of_pages saved pages
-  pub entered : AreEntered (length pages.journal.items) pages.published.items
+  pub state : replay subject saved pages.journal.items ≡ state_of_pages subject saved pages
   pub legal : AreLegal subject.formula.clauses subject.shown 1 pages.journal.items
       (start_of subject saved)
-  pub room : HasReleaseRoom pages
+  pub kept : ArePages pages
 
 -- The pass k took the prefix c with the number n, or it was gone.
 abbrev pub Takes : BookView → BookView → ℕ → Number → Taken → Type 0

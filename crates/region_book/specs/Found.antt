@@ -1,8 +1,6 @@
 -- Where the published cubes stand: each is named by a place, and kept there alone.
 use Rattle.std.specs.Prelude.{ℕ, zero, suc, ◌≤◌, List, [], ◌∷◌, map, slice_index_or, ℤ, Option, Some, None}
 use Rattle.std.specs.List.{All}
-use Rattle.std.specs.declared.cmp.Ordering.{Ordering}
-use Rattle.sat_terms.specs.CubeOrder.{cube_order}
 use Rattle.checkpoint.specs.declared.saved.Saved.{Saved}
 use Rattle.region_book.specs.declared.event.Event.{Event}
 use Rattle.region_book.specs.declared.event.Event.TheVariants.{Take, Report, Release}
@@ -38,7 +36,3 @@ places_from j i (suc n) = record { place = j; index = i } ∷ places_from j (suc
 -- Each is of the saved cubes, or of one of so many events.
 abbrev pub AreEntered : ℕ → List FoundAt → Type 0
 AreEntered m found = All (λ a. a.place ≤ m) found
-
--- Places are ordered by the cubes that stand there.
-abbrev pub found_order : Option Saved → List Event → FoundAt → FoundAt → Ordering
-found_order saved events a b = cube_order (cube_at saved events a) (cube_at saved events b)

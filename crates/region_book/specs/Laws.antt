@@ -8,7 +8,7 @@ use Rattle.sat_terms.specs.RightList.{IsRightList}
 use Rattle.search_job.specs.Weights.{weights}
 use Rattle.prefix_jobs.specs.declared.number.Number.{Number}
 use Rattle.region_book.specs.declared.event.Event.{Event}
-use Rattle.region_book.specs.declared.pending.Pending.{Pending}
+use Rattle.region_book.specs.Machine.{Pending}
 use Rattle.region_book.specs.Machine.{BookState, prefixes_of, has_number, held_by, steps_from, start_from, AreLegal, pass_of}
 use Rattle.region_book.specs.Partition.{IsPartition}
 use Rattle.region_book.specs.Starts.{start_of, CanBegin}

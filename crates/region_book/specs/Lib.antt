@@ -2,9 +2,12 @@ pub mod Arranged
 pub mod Books
 pub mod Examples
 pub mod Found
+pub mod Journalled
 pub mod Laws
 pub mod Lowest
 pub mod Machine
 pub mod Pages
 pub mod Partition
+pub mod Prefixes
+pub mod Slots
 pub mod Starts

@@ -6,7 +6,12 @@ use Rattle.prefix_jobs.specs.declared.outcome.Outcome.{Outcome}
 use Rattle.prefix_jobs.specs.Outcomes.{FitsPrefix}
 use Rattle.region_book.specs.declared.event.Event.{Event}
 use Rattle.region_book.specs.declared.event.Event.TheVariants.{Take, Report, Release}
-use Rattle.region_book.specs.declared.pending.Pending.{Pending}
+
+-- A prefix that is pending, its number, and the pass that holds it, if one does.
+pub record Pending : Type 0 where
+  pub number : Number
+  pub prefix : List ℤ
+  pub holder : Option ℕ
 
 -- The cubes published, the prefixes pending, and how many leaves were reported.
 pub record BookState : Type 0 where

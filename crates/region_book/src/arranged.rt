@@ -1,22 +1,21 @@
 //! A book whose lists are in order, to be written out.
-ghost use Rattle.std.specs.Prelude.{◌≡◌};
-ghost use Rattle.std.specs.List.Sorted.{IsPermutation, IsSorted};
-ghost use Rattle.sat_terms.specs.CubeOrder.{cube_order};
-ghost use Rattle.region_book.specs.Found.{found_order};
-ghost use Rattle.region_book.specs.Machine.{AreLegal};
+ghost use Rattle.std.specs.Prelude.{◌≡◌, ◌<◌, [], length, slice_index_or};
+ghost use Rattle.std.specs.Bool.{Decides};
+ghost use Rattle.region_book.specs.Machine.{prefixes_of, AreLegal};
 ghost use Rattle.region_book.specs.Starts.{start_of};
 ghost use Rattle.region_book.specs.Books.{state_of};
-ghost use Rattle.region_book.specs.Arranged.{IsArranged, prefix_order};
+ghost use Rattle.region_book.specs.Arranged.{IsArranged};
 
 use crate::book::Book;
 use crate::event::Event;
 use crate::found_at::{FoundAt, cube_at};
+use crate::left_prefixes::prefix_at;
 use crate::pages::Pages;
-use crate::pending::Pending;
+use crate::shelves::Shelves;
+use crate::slot::Slot;
 use checkpoint::{Saved, SavedView};
-use cube_text::shared_front;
-use sat_terms::{CubeList, Subject, compare};
-use std::cmp::Ordering;
+use cube_merge::put_in_order;
+use sat_terms::{CubeList, Subject};
 use std::marker::Model;
 
 /// A book that takes no more events. Its published cubes and its pending prefixes are those that
@@ -26,7 +25,10 @@ pub struct ArrangedBook {
     subject: Subject,
     saved: Option<Saved>,
     passes: u32,
-    pages: Pages,
+    journal: Vec<Event>,
+    published: Vec<FoundAt>,
+    pending: Vec<Slot>,
+    spent: u64,
 }
 
 impl Model for ArrangedBook {
@@ -34,9 +36,11 @@ impl Model for ArrangedBook {
 
     ghost Value = { ArrangedView };
 
-    ghost view = { λ a. arranged_view a.subject a.saved a.passes a.pages };
+    ghost view = { λ a. arranged_view a.subject a.saved a.passes a.journal.items a.published.items
+        a.pending.items };
 
-    ghost invariant = { λ a. KeepsArranged a.subject a.saved a.passes a.pages };
+    ghost invariant = { λ a. KeepsArranged a.subject a.saved a.passes a.journal.items
+        a.published.items a.pending.items a.spent };
 }
 
 impl Book {
@@ -53,15 +57,31 @@ impl Book {
             subject,
             saved,
             passes,
-            mut pages,
+            pages,
         } = self;
-        sort_found(&mut pages.published, &saved, &pages.journal);
-        sort_pending(&mut pages.pending);
+        let Pages {
+            journal,
+            mut published,
+            mut slots,
+            spent,
+        } = pages;
+        let shelves = Shelves {
+            subject: &subject,
+            saved: &saved,
+            journal: &journal,
+        };
+        put_in_order(&mut published, &shelves);
+        slots.squeeze();
+        let mut pending = slots.into_vec();
+        put_in_order(&mut pending, &shelves);
         ArrangedBook {
             subject,
             saved,
             passes,
-            pages,
+            journal,
+            published,
+            pending,
+            spent,
         }
     }
 }
@@ -75,11 +95,20 @@ impl ArrangedBook {
         &self.subject
     }
 
-    /// The prefixes that are pending, in order.
-    pub fn pending(&self) -> &[Pending]
-        ensures { result.now ≡ self.now.pending }
+    /// Whether nothing is pending.
+    pub fn is_finished(&self) -> bool
+        ensures { Decides result (self.now.pending ≡ []) }
     {
-        self.pages.pending.as_slice()
+        self.pending.is_empty()
+    }
+
+    /// The literals of the pending prefix of this place in their order. Constant time.
+    pub fn prefix(&self, i: usize) -> &[i32]
+        requires { i < length self.now.pending }
+        ensures { result.now ≡ slice_index_or (prefixes_of self.now.pending) i [] }
+    {
+        let number = self.pending[i].number;
+        prefix_at(&self.subject, &self.saved, &self.journal, number)
     }
 
     /// The events, the oldest first. Each was legal in its turn.
@@ -88,14 +117,14 @@ impl ArrangedBook {
         ensures legal { AreLegal self.now.book.subject.formula.clauses self.now.book.subject.shown 1
             self.now.book.journal (start_of self.now.book.subject self.now.book.saved) }
     {
-        self.pages.journal.as_slice()
+        self.journal.as_slice()
     }
 
     /// How many leaves were reported, up to 2^62, at which the number stands still.
     pub fn spent(&self) -> u64
         ensures { result ≡ (state_of self.now.book).spent }
     {
-        self.pages.spent
+        self.spent
     }
 }
 
@@ -103,11 +132,11 @@ impl CubeList for ArrangedBook {
     ghost cubes = { λ a. a.published };
 
     fn count(&self) -> usize {
-        self.pages.published.len()
+        self.published.len()
     }
 
     fn at(&self, i: usize) -> &[i32] {
-        cube_at(&self.saved, &self.pages.journal, self.pages.published[i])
+        cube_at(&self.saved, &self.journal, self.published[i])
     }
 }
 
@@ -123,37 +152,10 @@ impl SavedView for ArrangedBook {
     }
 
     fn pending_count(&self) -> usize {
-        self.pages.pending.len()
+        self.pending.len()
     }
 
     fn pending_at(&mut self, i: usize) -> &[i32] {
-        self.pages.pending[i].prefix.lits()
+        self.prefix(i)
     }
-}
-
-/// Sorts places by the cubes that stand there. Equal ones stay as many as they were.
-fn sort_found(found: &mut Vec<FoundAt>, saved: &Option<Saved>, journal: &[Event])
-    ensures same { IsPermutation found.old.items found.new.items }
-    ensures sorted { IsSorted (found_order saved.now journal.now) found.new.items }
-{
-    found.sort_unstable_by(|a, b| {
-        compare_past_front(cube_at(saved, journal, *a), cube_at(saved, journal, *b))
-    });
-}
-
-/// Sorts prefixes by their literals. Equal ones stay as many as they were.
-fn sort_pending(pending: &mut Vec<Pending>)
-    ensures same { IsPermutation pending.old.items pending.new.items }
-    ensures sorted { IsSorted prefix_order pending.new.items }
-{
-    pending.sort_unstable_by(|q, r| compare_past_front(q.prefix.lits(), r.prefix.lits()));
-}
-
-/// Compares two cubes as `compare` does. What both begin with, which is most of two neighbours in
-/// the order, takes one look a literal.
-fn compare_past_front(c: &[i32], d: &[i32]) -> Ordering
-    ensures { result ≡ cube_order c.now d.now }
-{
-    let shared = shared_front(c, d);
-    compare(&c[shared..], &d[shared..])
 }

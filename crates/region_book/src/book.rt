@@ -10,7 +10,6 @@ ghost use Rattle.region_book.specs.Books.{MakesReport, IsProgress};
 
 use crate::answers::{Progress, Reported, Taken};
 use crate::event::Event;
-use crate::lowest::lowest;
 use crate::pages::Pages;
 use checkpoint::Saved;
 use prefix_jobs::{Number, Outcome};
@@ -73,7 +72,8 @@ impl Book {
         ensures takes { IfOk result (λ taken. Takes self.old self.new pass number taken) }
         ensures unchanged { IfErr result (λ _. self.new ≡ self.old) }
     {
-        self.pages.take(self.alloc, pass, number)
+        self.pages
+            .take(self.alloc, &self.subject, &self.saved, pass, number)
     }
 
     /// Takes the prefix of the lowest number that nobody holds. None where there is none.
@@ -82,10 +82,13 @@ impl Book {
         ensures takes { IfOk result (λ taken. TakesLowest self.old self.new pass taken) }
         ensures unchanged { IfErr result (λ _. self.new ≡ self.old) }
     {
-        let Some(number) = lowest(&self.pages.pending, false) else {
+        let Some(number) = self.pages.slots.lowest_free() else {
             return Ok(None);
         };
-        match self.pages.take(self.alloc, pass, number)? {
+        let taken = self
+            .pages
+            .take(self.alloc, &self.subject, &self.saved, pass, number)?;
+        match taken {
             Taken::Held(prefix) => Ok(Some((number, prefix))),
             Taken::Gone => unreachable!(),
         }
@@ -107,8 +110,8 @@ impl Book {
         ensures unchanged { IfErr result (λ refused. self.new ≡ self.old) }
         ensures given_back { IfErr result (λ refused. refused.0 ≡ outcome) }
     {
-        match self.pages.prepare(self.alloc, pass, &outcome) {
-            Ok(parts) => Ok(self.pages.report(pass, number, outcome, parts)),
+        match self.pages.prepare(&outcome) {
+            Ok(()) => Ok(self.pages.report(pass, number, outcome)),
             Err(error) => Err((outcome, error)),
         }
     }
@@ -122,14 +125,15 @@ impl Book {
         self.pages.release(pass, number);
     }
 
-    /// What is left to be done. At most two walks over what is pending.
+    /// What is left to be done. Constant time where something is free, else a walk up to the first
+    /// prefix that is held.
     pub fn state(&self) -> Progress
         ensures { IsProgress (state_of self.now).pending result }
     {
-        if let Some(number) = lowest(&self.pages.pending, false) {
+        if let Some(number) = self.pages.slots.lowest_free() {
             return Progress::Unheld(number);
         }
-        match lowest(&self.pages.pending, true) {
+        match self.pages.slots.lowest_held() {
             Some(number) => Progress::HeldByOthers(number),
             None => Progress::Finished,
         }

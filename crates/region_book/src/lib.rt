@@ -8,19 +8,20 @@
 mod answers;
 mod arranged;
 mod book;
-mod copies;
 mod event;
 mod found_at;
+mod journalled;
 pub mod laws;
-mod lowest;
+mod left_prefixes;
 mod pages;
-mod pending;
+mod shelves;
+mod slot;
+mod slots;
 
 pub use answers::{Progress, Reported, Taken};
 pub use arranged::ArrangedBook;
 pub use book::Book;
 pub use event::Event;
-pub use pending::Pending;
 
 #[cfg(test)]
 mod tests;

@@ -1,16 +1,20 @@
-use Rattle.std.proofs.Common.{refl, subst}
-use Rattle.std.specs.List.Sorted.{IsSorted}
-use Rattle.region_book.specs.Found.{found_order}
+use Rattle.std.proofs.Common.{subst, ◌∙◌}
+use Rattle.std.specs.List.Sorted.{IsPermutation, IsSorted}
+use Rattle.cube_merge.specs.Names.{name_order}
+use Rattle.region_book.specs.Found.{cube_at}
+use Rattle.region_book.specs.Prefixes.{prefix_at}
 use Rattle.region_book.proofs.Booked.{arranges}
 use Rattle.region_book.proofs.book.Book.arrange.Goals as goal
 
 pub invariant_of-result : goal.invariant_of-result
 invariant_of-result c =
     let b = c.self.inside in
-    arranges b.subject b.saved b.passes b.pages record { journal = b.pages.journal; published = c.sort_found.new.found; pending = c.sort_pending.new.pending; spent = b.pages.spent }
-    c.self.invariant refl refl c.sort_found.ensures.same c.sort_pending.ensures.same
-    (subst (λ events. IsSorted (found_order b.saved events) c.sort_found.new.found.items) c.deref.ensures.value c.sort_found.ensures.sorted)
-    c.sort_pending.ensures.sorted
+    let journal = b.pages.journal.items in
+    arranges b.subject b.saved b.passes b.pages c.put_in_order.new.names.items c.put_in_order-2.new.names.items c.self.invariant
+    c.put_in_order.ensures.same
+    (subst (λ xs. IsSorted (name_order (cube_at b.saved xs)) c.put_in_order.new.names.items) c.deref.ensures.value c.put_in_order.ensures.sorted)
+    (subst (λ xs. IsPermutation xs c.put_in_order-2.new.names.items) (c.into_vec-pending.ensures ∙ c.squeeze.ensures.live) c.put_in_order-2.ensures.same)
+    (subst (λ xs. IsSorted (name_order (λ s. prefix_at b.subject b.saved xs s.number)) c.put_in_order-2.new.names.items) c.deref.ensures.value c.put_in_order-2.ensures.sorted)
 
 pub returns-clause-arranged : goal.returns-clause-arranged
 returns-clause-arranged c = (invariant_of-result c).arranged

@@ -1,15 +1,15 @@
-use Rattle.std.proofs.Common.{◌≡◌, ℕ, suc, ◌++◌, length, take, drop, is_some, List, ℤ, Option, Some, None, refl, sym, ap, ap₂, ◌∙◌, add-one, arith}
-use Rattle.std.specs.List.{position}
+use Rattle.std.proofs.Common.{◌≡◌, ℕ, suc, ◌+◌, ◌≤◌, ◌++◌, filter, length, is_some, List, ℤ, Option, Some, None, refl, sym, ap, ap₂, subst, ◌∙◌, arith}
+use Rattle.std.specs.List.{All}
 use Rattle.std.specs.Bool.{then_some}
 use Rattle.prefix_jobs.specs.declared.number.Number.{Number}
 use Rattle.prefix_jobs.specs.declared.outcome.Outcome.{Outcome}
 use Rattle.region_book.specs.declared.answers.Reported.{Reported}
 use Rattle.region_book.specs.declared.pages.Pages.{Pages}
+use Rattle.region_book.specs.declared.slot.Standing.TheVariants.{Gone}
 use Rattle.region_book.specs.Found.{places_from}
-use Rattle.region_book.specs.Machine.{is_held_by, edit_first, taken_out}
 use Rattle.region_book.specs.Pages.{kept_number, report_answer}
-use Rattle.region_book.proofs.Paged.{enters_report, no_prefix}
-use Rattle.region_book.proofs.Places.{none_from_position, removed_is_edit}
+use Rattle.region_book.specs.Slots.{is_live, slots_of}
+use Rattle.region_book.proofs.Paged.{enters_report, any_slot, placed_set}
 use Rattle.region_book.proofs.pages.Pages.report.Goals as goal
 
 abbrev pub number_of : ℕ → ℕ → Number
@@ -22,38 +22,48 @@ kept_told : (j : ℕ) (o : Outcome) (kept : Option (List ℤ)) → then_some (is
 kept_told j o None = refl
 kept_told j o (Some c) = refl
 
-pub unreachable-requires : goal.unreachable-requires
-unreachable-requires c =
-    let test = is_held_by c.args.pass c.args.number in
-    c.requires.held (none_from_position test c.args.self.now.pending.items (ap (position test) (sym c.deref.ensures.value) ∙ sym c.find_held-found.ensures ∙ c.in_default.is))
+-- what is left has no later places
+left_placed : (c : goal.After-outcome-1) → All (λ s. s.number.place ≤ length c.args.self.now.journal.items) c.squeeze_if_sparse.new.self.slots.items
+left_placed c =
+    let old = c.args.self.now in
+    let slots = old.slots.slots.items in
+    let m = length old.journal.items in
+    c.squeeze_if_sparse.ensures.placed m
+    (subst (All (λ s. s.number.place ≤ m)) (sym (c.set_standing.ensures.slots any_slot)) (placed_set m slots c.in-Some.at any_slot Gone c.in-Some.ensures.inside c.requires.pages.placed))
+
+pub append-requires-clause-older : goal.append-requires-clause-older
+append-requires-clause-older c k d inside =
+    let one = left_placed c k d inside in
+    let len = c.len-place.ensures in
+    let long = c.args.self.now.journal.ok.0 in
+    omega arith
 
 pub returns : goal.returns
 returns c =
     let old = c.args.self.now in
     let o = c.args.outcome in
-    let new : Pages = record { journal = c.push_reserved.new.self; published = c.add_places.new.found; pending = c.move_all.new.to; spent = c.more_spent-self.result } in
-    let test = is_held_by c.args.pass c.args.number in
+    let new : Pages = record { journal = c.push_reserved.new.self; published = c.add_places.new.found; slots = c.append.new.self; spent = c.more_spent-self.result } in
+    let slots = old.slots.slots.items in
     let at = c.in-Some.at in
-    let d = no_prefix c.args.number in
-    let found : position test old.pending.items ≡ Some at = ap (position test) (sym c.deref.ensures.value) ∙ sym c.find_held-found.ensures ∙ c.in-Some.is in
-    let parts = c.requires.prepared in
+    let left = c.squeeze_if_sparse.new.self.slots.items in
+    let m = length old.journal.items in
+    let place : c.len-place.result + 1 ≡ suc m = (let one = c.len-place.ensures in let two = old.journal.ok.0 in omega arith) in
+    let room = c.requires.room in
     record {
-      enters = enters_report old new c.args.pass c.args.number at d o c.requires.held c.push_reserved.ensures.items
-          (c.add_places.ensures
-          ∙ ap₂ (λ j n. old.published.items ++ places_from j 0 n)
-          (let one = c.len.ensures in let two = old.journal.ok.0 in omega arith)
-          (ap length c.as_slice-count.ensures))
-          (c.move_all.ensures
-          ∙ ap (λ x. x ++ c.args.parts.items) (c.take_out.ensures.rest ∙ ap (λ x. take at old.pending.items ++ drop x old.pending.items) (add-one at) ∙ removed_is_edit test old.pending.items at d found)
-          ∙ ap (λ x. edit_first test taken_out old.pending.items ++ x) parts.pending)
+      enters = enters_report old new c.args.pass c.args.number at any_slot c.requires.pages c.append.ensures.are o left c.in-Some.ensures
+          c.push_reserved.ensures.items
+          (c.add_places.ensures ∙ ap₂ (λ j n. old.published.items ++ places_from j 0 n) place (ap length c.as_slice.ensures))
+          (c.squeeze_if_sparse.ensures.live ∙ ap (filter is_live) (c.set_standing.ensures.slots any_slot))
+          (c.squeeze_if_sparse.ensures.placed m
+          (subst (All (λ s. s.number.place ≤ m)) (sym (c.set_standing.ensures.slots any_slot)) (placed_set m slots at any_slot Gone c.in-Some.ensures.inside c.requires.pages.placed)))
+          (c.append.ensures.slots ∙ ap (λ j. left ++ slots_of j c.args.pass o) place)
           c.more_spent-self.ensures
-          (let room = parts.room in let same = c.push_reserved.ensures.capacity in omega arith);
+          (let event = room.room in let same = c.push_reserved.ensures.capacity in omega arith);
       answers =
-          (let place : c.len-place.result ≡ suc (length old.journal.items) = (let one = c.len-place.ensures in let two = c.push_reserved.ensures.len in let three = old.journal.ok.0 in omega arith) in
-          let kept : c.then_some.result ≡ kept_number c.len-place.result o o.kept =
+          (let kept : c.then_some.result ≡ kept_number (c.len-place.result + 1) o o.kept =
           c.then_some.ensures
-          ∙ ap (λ b. then_some b (number_of c.len-place.result (length c.as_slice.result.now))) c.is_some-keeps.ensures
-          ∙ ap (λ i. then_some (is_some o.kept) (number_of c.len-place.result i)) (ap length c.as_slice.ensures)
-          ∙ kept_told c.len-place.result o o.kept in
-          ap (answer_of c.len-place.result c.more_spent-self.result) kept ∙ ap (λ j. report_answer j o c.more_spent-self.result) place);
+          ∙ ap (λ b. then_some b (number_of (c.len-place.result + 1) (length c.as_slice-2.result.now))) c.is_some-keeps.ensures
+          ∙ ap (λ i. then_some (is_some o.kept) (number_of (c.len-place.result + 1) i)) (ap length c.as_slice-2.ensures)
+          ∙ kept_told (c.len-place.result + 1) o o.kept in
+          ap (answer_of (c.len-place.result + 1) c.more_spent-self.result) kept ∙ ap (λ j. report_answer j o c.more_spent-self.result) place);
     }

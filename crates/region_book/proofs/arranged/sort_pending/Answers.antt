@@ -1,7 +1,0 @@
-use Rattle.std.proofs.Common.{rules}
-use Rattle.std.proofs.lemmas.List.Sorted.{answers_always}
-use Rattle.region_book.proofs.Ranks.{prefix_order_ranks}
-use Rattle.region_book.proofs.arranged.sort_pending.Goals as goal
-
-pub returns-clause-sorted : goal.returns-clause-sorted
-returns-clause-sorted c = c.sort_unstable_by.ensures.sorted _ prefix_order_ranks (answers_always _ _ _ (λ f a r g h. search rules))
