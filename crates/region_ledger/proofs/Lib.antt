@@ -1,0 +1,3 @@
+mod Closing
+pub mod Holdings
+mod Turns
