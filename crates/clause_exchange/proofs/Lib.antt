@@ -1,0 +1,3 @@
+pub mod Mailed
+pub mod Offers
+pub mod Places
