@@ -7,7 +7,7 @@ use Rattle.std.proofs.lemmas.Cmp.{nat_eq_equiv}
 use Rattle.std.proofs.lemmas.List.Elements.{All-nil, All-cons, All-head, All-tail, All-append}
 use Rattle.prefix_jobs.specs.declared.number.Number.{Number}
 use Rattle.prefix_jobs.specs.declared.outcome.Outcome.{Outcome}
-use Rattle.region_book.specs.declared.pending.Pending.{Pending}
+use Rattle.region_book.specs.Machine.{Pending}
 use Rattle.region_book.specs.Machine.{has_number, is_pass, is_free, is_held_by, edit_first, taken_by, let_go, taken_out, numbered, kept_part, parts_of}
 use Rattle.region_book.specs.Pages.{prefix_of}
 use Rattle.worker_loop.specs.Sweeps.{AreUnheld}

@@ -1,5 +1,5 @@
 mod Allowances
 mod Begin
 mod Held
-mod Prefixes
+mod Lists
 mod Steps

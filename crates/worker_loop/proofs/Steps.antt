@@ -6,23 +6,15 @@ use Rattle.prefix_jobs.specs.declared.number.Number.{Number}
 use Rattle.prefix_jobs.specs.declared.outcome.Outcome.{Outcome}
 use Rattle.region_book.specs.declared.event.Event.{Event}
 use Rattle.region_book.specs.declared.event.Event.TheVariants.{Take, Report, Release}
-use Rattle.region_book.specs.declared.pending.Pending.{Pending}
-use Rattle.region_book.specs.Machine.{BookState, is_free, is_held_by, edit_first, taken_out, parts_of, reported, step, steps_from}
+use Rattle.region_book.specs.Machine.{BookState, Pending, is_free, is_held_by, edit_first, taken_out, parts_of, reported}
 use Rattle.region_book.specs.Pages.{prefix_of}
-use Rattle.region_book.specs.Starts.{start_of}
 use Rattle.region_book.specs.Books.{BookView, state_of, with_event, TakesLowest}
 use Rattle.live_engine.specs.Engines.{EngineView, outcome_of}
 use Rattle.worker_loop.specs.Sweeps.{AreUnheld, GrowsFrom}
 use Rattle.worker_loop.specs.Jobs.{spent_with, HoldsOnly, IsInJob, TakesOne, HandsOver}
 use Rattle.worker_loop.proofs.Held.{take_holds, release_unheld, report_unheld, found_some, none_pending, length-taken, length-taken_out}
-use Rattle.worker_loop.proofs.Prefixes.{found_over}
-
-steps-snoc : (j m : ℕ) (events : List Event) (e : Event) (s : BookState) → m ≡ length events + j → steps_from j (events ++ e ∷ []) s ≡ step m e (steps_from j events s)
-steps-snoc j m [] e s same = let here : j ≡ m = omega arith in ap (λ x. step x e s) here
-steps-snoc j m (d ∷ events) e s same = steps-snoc (suc j) m events e (step j d s) (omega arith)
-
-after_event : (b new : BookView) (e : Event) → new ≡ with_event e b → state_of new ≡ step (suc (length b.journal)) e (state_of b)
-after_event b new e is = ap state_of is ∙ steps-snoc 1 (suc (length b.journal)) b.journal e (start_of b.subject b.saved) (omega arith)
+use Rattle.region_book.proofs.Owned.{after_event}
+use Rattle.region_book.proofs.Prefixes.{found_over}
 
 grows_by : (b : BookView) (e : Event) → GrowsFrom b (with_event e b)
 grows_by b e = record { subject = refl; saved = refl; passes = refl; more = e ∷ []; journal = refl }

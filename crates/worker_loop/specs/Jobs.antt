@@ -3,7 +3,7 @@ use Rattle.std.specs.Prelude.{◌≡◌, ◌⊎◌, ℕ, ◌+◌, ◌<◌, ◌�
 use Rattle.std.specs.List.{find}
 use Rattle.sat_terms.specs.Cubes.{IsCube}
 use Rattle.prefix_jobs.specs.declared.number.Number.{Number}
-use Rattle.region_book.specs.declared.pending.Pending.{Pending}
+use Rattle.region_book.specs.Machine.{Pending}
 use Rattle.region_book.specs.Machine.{is_held_by, edit_first, taken_out}
 use Rattle.region_book.specs.Pages.{prefix_of}
 use Rattle.region_book.specs.Books.{BookView, state_of}

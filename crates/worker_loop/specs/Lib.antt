@@ -1,3 +1,5 @@
+pub mod Fetched
 pub mod Jobs
 pub mod Laws
 pub mod Sweeps
+pub mod Workers

@@ -2,7 +2,7 @@
 use Rattle.std.specs.Prelude.{◌≡◌, ◌≢◌, ℕ, ◌≤◌, Bool, true, false, nat_le, List, [], ◌++◌, Option, Some, None}
 use Rattle.std.specs.List.{All}
 use Rattle.region_book.specs.declared.event.Event.{Event}
-use Rattle.region_book.specs.declared.pending.Pending.{Pending}
+use Rattle.region_book.specs.Machine.{Pending}
 use Rattle.region_book.specs.Books.{BookView, state_of}
 use Rattle.live_engine.specs.Engines.{EngineView}
 use Rattle.worker_loop.specs.declared.sweeping.Swept.{Swept}

@@ -21,7 +21,7 @@ use std::alloc::AllocError;
 const SWEEPER: u32 = 0;
 
 /// Lemmas of at most so many literals are kept from job to job.
-const LONGEST_KEPT: usize = 8;
+pub(crate) const LONGEST_KEPT: usize = 8;
 
 /// How a sweep ended.
 #[derive(Clone, Copy, Debug, PartialEq, Eq)]

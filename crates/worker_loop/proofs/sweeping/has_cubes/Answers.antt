@@ -1,4 +1,4 @@
-use Rattle.worker_loop.proofs.Prefixes.{book_over}
+use Rattle.region_book.proofs.Prefixes.{book_over}
 use Rattle.worker_loop.proofs.sweeping.has_cubes.Goals as goal
 
 pub returns-clause-cubes : goal.returns-clause-cubes

@@ -1,0 +1,15 @@
+use Rattle.std.proofs.Common.{◌≡◌, None, length}
+use Rattle.std.specs.List.{All}
+use Rattle.region_ledger.specs.Hands.{subject_of, IsFreeHand}
+use Rattle.worker_loop.specs.Workers.{IsOffWork}
+use Rattle.worker_loop.proofs.worker_tests.seat_all.Given as goal
+
+abbrev pub invariant-loop-pass : goal.invariant-loop-pass
+invariant-loop-pass g l = record {
+  free : All (IsFreeHand l.ledger) l.passes.items;
+  engines : All (λ e. (e.subject ≡ subject_of l.ledger) × (e.job ≡ None)) l.engines.items;
+  members : All (λ m. IsOffWork l.ledger m.pass.number m.pass m.engine) l.members.items;
+}
+
+abbrev pub decreases-loop-pass : goal.decreases-loop-pass
+decreases-loop-pass g l = length l.passes.items
