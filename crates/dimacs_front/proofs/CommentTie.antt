@@ -1,5 +1,5 @@
 -- A comment line says to the machine what it says.
-use Rattle.std.proofs.Common.{◌≡◌, ℕ, Bool, true, false, not, cond, ◌&&◌, eqb, List, [], ◌∷◌, map, ◌++◌, ℤ, nat_abs, Option, Result, Ok, refl, sym, ap, ◌∙◌, lit<}
+use Rattle.std.proofs.Common.{◌≡◌, ℕ, Bool, true, false, not, cond, ◌&&◌, ◌||◌, eqb, List, [], ◌∷◌, map, ◌++◌, ℤ, nat_abs, Option, Result, Ok, refl, sym, ap, ◌∙◌, lit<}
 use Rattle.std.specs.Prelude.{codes}
 use Rattle.std.specs.Str.{bytes_eq}
 use Rattle.std.proofs.lemmas.Bool.{cond-true}
@@ -9,7 +9,7 @@ use Rattle.dimacs_tokens.specs.Seen.{seen_token, begins_with, is_nil}
 use Rattle.dimacs_tokens.proofs.NumberLaws.{words_by_head}
 use Rattle.dimacs_front.specs.declared.under_lines.Given.{Given}
 use Rattle.dimacs_front.specs.declared.refused.TextRefused.{TextRefused}
-use Rattle.dimacs_front.specs.declared.refused.TextRefused.TheVariants.{SavedBad, NotBuilt}
+use Rattle.dimacs_front.specs.declared.refused.TextRefused.TheVariants.{SavedBad}
 use Rattle.dimacs_front.specs.declared.line_place.LinePlace.{LinePlace}
 use Rattle.dimacs_front.specs.declared.comment_place.CommentPlace.{CommentPlace}
 use Rattle.dimacs_front.specs.declared.comment_place.CommentPlace.TheVariants as comment
@@ -17,17 +17,19 @@ use Rattle.dimacs_front.specs.declared.line_place.LinePlace.TheVariants.{Beginni
 use Rattle.dimacs_front.specs.declared.saved_lines.SavedList.TheVariants.{Cubes, Pending}
 use Rattle.dimacs_front.specs.declared.saved_place.SavedPlace.{SavedPlace}
 use Rattle.dimacs_front.specs.declared.saved_place.SavedPlace.TheVariants.{Listed, End}
+use Rattle.dimacs_front.specs.declared.saved_place.OpenList.TheVariants.{Line, Shown}
 use Rattle.dimacs_front.specs.MachinePlaces.{in_comment}
 use Rattle.dimacs_front.specs.Steps.{and_then, needs}
 use Rattle.dimacs_front.specs.HeaderLines.{Below}
 use Rattle.dimacs_front.specs.ListLines.{ListLine, show_says, under_says}
-use Rattle.dimacs_front.specs.SavedTexts.{SavedSaid, is_version, unended, cube_says, last_says}
+use Rattle.dimacs_front.specs.SavedTexts.{SavedSaid, is_version, is_met_version, own_line, cube_says, met_says, last_says}
 use Rattle.dimacs_front.specs.TextLines.{Said, with_show, with_given, with_saved, comment_says}
 use Rattle.dimacs_front.specs.Machine.{StateView, eaten, closed}
 use Rattle.dimacs_front.proofs.MachineLines.{tokens_said, line_said, names_behind}
 use Rattle.dimacs_front.proofs.Ties.{names_of, standing, state_of, Met, met_same, met_map, met_as, refused_line}
 use Rattle.dimacs_front.proofs.UnderTie.{given_list, under_met}
 use Rattle.dimacs_front.proofs.SavedTie.{below_saved, first_line_met, cube_line_met, last_line_met}
+use Rattle.dimacs_front.proofs.MetTie.{met_first_line_met, met_line_met}
 use Rattle.dimacs_front.proofs.ListTie.{below_show, shown_list, show_met}
 
 -- a word that is `p` is not `allsat`
@@ -56,9 +58,9 @@ abbrev behind_two : Bool → Bool → Bool → CommentPlace
 behind_two c p a = cond c (cond p comment.Parted (cond a comment.Named comment.Passed)) comment.Passed
 
 -- behind `c p` and the word of a kind of line
-abbrev by_kind : Bool → Bool → Bool → Bool → Bool → CommentPlace
-by_kind w u b v e =
-    cond w comment.Show (cond u comment.Under (cond b comment.Cube (cond v comment.Open (cond e comment.End comment.Passed))))
+abbrev by_kind : Bool → Bool → Bool → Bool → Bool → Bool → CommentPlace
+by_kind w u b v e l =
+    cond w comment.Show (cond u comment.Under (cond b comment.Cube (cond v comment.Open (cond e comment.End (cond l comment.MetLine comment.Passed)))))
 
 -- and behind `c allsat`
 abbrev by_text : Bool → Bool → CommentPlace
@@ -72,9 +74,9 @@ abbrev three : Bool → Bool → Bool → Bool
 three c p w = c && (p && (w && true))
 
 -- the place by whole words, in their order
-abbrev by_all : Bool → Bool → Bool → Bool → Bool → Bool → Bool → CommentPlace
-by_all w u m s b v e =
-    cond w comment.Show (cond u comment.Under (cond m comment.Met (cond s comment.Saved (cond b comment.Cube (cond v comment.Open (cond e comment.End comment.Passed))))))
+abbrev by_all : Bool → Bool → Bool → Bool → Bool → Bool → Bool → Bool → CommentPlace
+by_all w u m s b v e l =
+    cond w comment.Show (cond u comment.Under (cond m comment.Met (cond s comment.Saved (cond b comment.Cube (cond v comment.Open (cond e comment.End (cond l comment.MetLine comment.Passed)))))))
 
 and_true : (b : Bool) → (b && true) ≡ b
 and_true true = refl
@@ -88,28 +90,28 @@ one_text : (one m : Bool) → (one && (m && true)) ≡ (one && m)
 one_text true m = and_true m
 one_text false m = refl
 
-kind_places : (one w u b v e : Bool) →
-    by_kind w u b v e ≡ by_all (w && true) (u && true) (one && false) (one && false) (b && true) (v && true) (e && true)
-kind_places one w u b v e =
-    (λ i. by_all (sym (and_true w) i) (sym (and_true u) i) (sym (no_text one) i) (sym (no_text one) i) (sym (and_true b) i) (sym (and_true v) i) (sym (and_true e) i))
+kind_places : (one w u b v e l : Bool) →
+    by_kind w u b v e l ≡ by_all (w && true) (u && true) (one && false) (one && false) (b && true) (v && true) (e && true) (l && true)
+kind_places one w u b v e l =
+    (λ i. by_all (sym (and_true w) i) (sym (and_true u) i) (sym (no_text one) i) (sym (no_text one) i) (sym (and_true b) i) (sym (and_true v) i) (sym (and_true e) i) (sym (and_true l) i))
 
 text_places : (one m s : Bool) →
-    cond one (by_text m s) comment.Passed ≡ by_all false false (one && (m && true)) (one && (s && true)) false false false
-text_places true m s = (λ i. by_all false false (sym (and_true m) i) (sym (and_true s) i) false false false)
+    cond one (by_text m s) comment.Passed ≡ by_all false false (one && (m && true)) (one && (s && true)) false false false false
+text_places true m s = (λ i. by_all false false (sym (and_true m) i) (sym (and_true s) i) false false false false)
 text_places false m s = refl
 
-three_places : (one c p a w u m s b v e : Bool) → (p && a) ≡ false →
-    behind_three c p (one && a) (by_kind w u b v e) (by_text m s) ≡
-    by_all (three c p w) (three c p u) (one && three c a m) (one && three c a s) (three c p b) (three c p v) (three c p e)
-three_places one false p a w u m s b v e h =
-    (λ i. by_all false false (sym (no_text one) i) (sym (no_text one) i) false false false)
-three_places one true true true w u m s b v e h = absurd (cc)
-three_places one true true false w u m s b v e h = kind_places one w u b v e
-three_places true true false true w u m s b v e h = text_places true m s
-three_places false true false true w u m s b v e h = refl
-three_places one true false false w u m s b v e h =
-    (λ i. behind_three true false (no_text one i) (by_kind w u b v e) (by_text m s))
-    ∙ (λ i. by_all false false (sym (no_text one) i) (sym (no_text one) i) false false false)
+three_places : (one c p a w u m s b v e l : Bool) → (p && a) ≡ false →
+    behind_three c p (one && a) (by_kind w u b v e l) (by_text m s) ≡
+    by_all (three c p w) (three c p u) (one && three c a m) (one && three c a s) (three c p b) (three c p v) (three c p e) (three c p l)
+three_places one false p a w u m s b v e l h =
+    (λ i. by_all false false (sym (no_text one) i) (sym (no_text one) i) false false false false)
+three_places one true true true w u m s b v e l h = absurd (cc)
+three_places one true true false w u m s b v e l h = kind_places one w u b v e l
+three_places true true false true w u m s b v e l h = text_places true m s
+three_places false true false true w u m s b v e l h = refl
+three_places one true false false w u m s b v e l h =
+    (λ i. behind_three true false (no_text one i) (by_kind w u b v e l) (by_text m s))
+    ∙ (λ i. by_all false false (sym (no_text one) i) (sym (no_text one) i) false false false false)
 
 -- too few tokens
 few_are_no_kind : (c p : Bool) → (c && (p && false)) ≡ false
@@ -146,7 +148,7 @@ module _ (n : ℕ) (o : Option Below) (ms : List ListLine) (gs : List Given) (k 
   second false t = refl
 
   abbrev kind_of : List ℕ → CommentPlace
-  kind_of h = by_kind (bytes_eq h (codes "show")) (bytes_eq h (codes "under")) (bytes_eq h (codes "cube")) (bytes_eq h (codes "open")) (bytes_eq h (codes "end"))
+  kind_of h = by_kind (bytes_eq h (codes "show")) (bytes_eq h (codes "under")) (bytes_eq h (codes "cube")) (bytes_eq h (codes "open")) (bytes_eq h (codes "end")) (bytes_eq h (codes "met"))
 
   abbrev text_of : List ℕ → CommentPlace
   text_of h = by_text (bytes_eq h (codes "met")) (bytes_eq h (codes "saved"))
@@ -190,22 +192,23 @@ module _ (n : ℕ) (o : Option Below) (ms : List ListLine) (gs : List Given) (k 
   abbrev said : Said
   said = record { below = o; shows = ms; given = gs; saved = k; over = false }
 
-  -- what a comment says of a saved text, by its words
-  abbrev saved_by : Bool → Bool → Bool → Bool → List (List ℕ) → Result SavedSaid TextRefused
-  saved_by s b v e ts =
-      cond s (needs (is_version ts) (SavedBad n) (Ok (record k { named = true })))
-      (cond k.named
-      (cond b (unended n k (cube_says Cubes n k ts))
-      (cond v (unended n k (cube_says Pending n k ts))
-      (cond e (unended n k (last_says n k ts)) (Ok k))))
-      (Ok k))
+  -- what a comment says of a saved text and of a met text, by its words
+  abbrev saved_by : Bool → Bool → Bool → Bool → Bool → Bool → List (List ℕ) → Result SavedSaid TextRefused
+  saved_by m s b v e l ts =
+      cond m (needs (is_met_version ts) (SavedBad n) (Ok (record k { met = true })))
+      (cond s (needs (is_version ts) (SavedBad n) (Ok (record k { named = true })))
+      (cond b (own_line k.named n k (cube_says Cubes n k ts))
+      (cond v (own_line k.named n k (cube_says Pending n k ts))
+      (cond e (own_line (k.named || k.met) n k (last_says n k ts))
+      (cond l (own_line k.met n k (met_says n k (map token_value ts)))
+      (Ok k))))))
 
   -- what a comment says, by its words
-  abbrev by_words : Bool → Bool → Bool → Bool → Bool → Bool → Bool → List (List ℕ) → Result Said TextRefused
-  by_words w u m s b v e ts =
+  abbrev by_words : Bool → Bool → Bool → Bool → Bool → Bool → Bool → Bool → List (List ℕ) → Result Said TextRefused
+  by_words w u m s b v e l ts =
       cond w (and_then (λ x. Ok (with_show said x)) (show_says n (map token_value ts)))
       (cond u (and_then (λ x. Ok (with_given said x)) (under_says n (map token_value ts)))
-      (needs (not m) (NotBuilt n) (and_then (λ x. Ok (with_saved said x)) (saved_by s b v e ts))))
+      (and_then (λ x. Ok (with_saved said x)) (saved_by m s b v e l ts)))
 
   abbrev line_of : List ℤ → ListLine
   line_of ls = record { line = n; values = ls }
@@ -245,7 +248,7 @@ module _ (n : ℕ) (o : Option Below) (ms : List ListLine) (gs : List Given) (k 
       (met_map (λ x. state_of (with_given said x)) line_of (given_list n (map token_value ts)) (closed n (tokens_said n (at Under) ts))
       (under_met n (at Beginning) ts))
 
-  -- a line of a saved text's own, as it stands in a saved text and in others
+  -- a line that some texts have of their own, as it stands in these and in others
   abbrev own : Bool → Bool → SavedPlace → LinePlace
   own named ended p = cond named (cond ended (Refused (SavedBad n)) (Saved p)) (Comment comment.Passed)
 
@@ -257,42 +260,35 @@ module _ (n : ℕ) (o : Option Below) (ms : List ListLine) (gs : List Given) (k 
   own_met true false p x ts h = h
   own_met false ended p x ts h = passed_line ts
 
-  no_own : (named : Bool) (ts : List (List ℕ)) →
-      Met (below_saved (at Beginning)) (cond named (Ok k) (Ok k)) (closed n (tokens_said n (at (Comment comment.Passed)) ts))
-  no_own true ts = passed_line ts
-  no_own false ts = passed_line ts
+  saved_met : (m s b v e l : Bool) (ts : List (List ℕ)) →
+      Met (below_saved (at Beginning)) (saved_by m s b v e l ts)
+      (closed n (tokens_said n (at (in_comment k n (by_all false false m s b v e l))) ts))
+  saved_met true s b v e l ts = met_first_line_met n (at Beginning) ts
+  saved_met false true b v e l ts = first_line_met n (at Beginning) ts
+  saved_met false false true v e l ts =
+      own_met k.named k.ended (Listed (Line Cubes)) (cube_says Cubes n k ts) ts (cube_line_met n Cubes (at Beginning) refl ts)
+  saved_met false false false true e l ts =
+      own_met k.named k.ended (Listed (Line Pending)) (cube_says Pending n k ts) ts (cube_line_met n Pending (at Beginning) refl ts)
+  saved_met false false false false true l ts =
+      own_met (k.named || k.met) k.ended End (last_says n k ts) ts (last_line_met n (at Beginning) ts)
+  saved_met false false false false false true ts =
+      own_met k.met k.ended (Listed Shown) (met_says n k (map token_value ts)) ts (met_line_met n (at Beginning) refl refl ts)
+  saved_met false false false false false false ts = passed_line ts
 
-  saved_met : (s b v e : Bool) (ts : List (List ℕ)) →
-      Met (below_saved (at Beginning)) (saved_by s b v e ts)
-      (closed n (tokens_said n (at (in_comment k n (by_all false false false s b v e))) ts))
-  saved_met true b v e ts = first_line_met n (at Beginning) ts
-  saved_met false true v e ts =
-      own_met k.named k.ended (Listed Cubes) (cube_says Cubes n k ts) ts (cube_line_met n Cubes (at Beginning) refl ts)
-  saved_met false false true e ts =
-      own_met k.named k.ended (Listed Pending) (cube_says Pending n k ts) ts (cube_line_met n Pending (at Beginning) refl ts)
-  saved_met false false false true ts =
-      own_met k.named k.ended End (last_says n k ts) ts (last_line_met n (at Beginning) ts)
-  saved_met false false false false ts = no_own k.named ts
-
-  third_met : (w u m s b v e : Bool) (ts : List (List ℕ)) →
-      Met state_of (by_words w u m s b v e ts)
-      (closed n (tokens_said n (at (in_comment k n (by_all w u m s b v e))) ts))
-  third_met true u m s b v e ts = show_line_met ts
-  third_met false true m s b v e ts = under_line_met ts
-  third_met false false true s b v e ts = refused_line n (at (Refused (NotBuilt n))) (NotBuilt n) ts refl
-  third_met false false false s b v e ts =
-      met_map state_of (with_saved said) (saved_by s b v e ts) _ (saved_met s b v e ts)
+  third_met : (w u m s b v e l : Bool) (ts : List (List ℕ)) →
+      Met state_of (by_words w u m s b v e l ts)
+      (closed n (tokens_said n (at (in_comment k n (by_all w u m s b v e l))) ts))
+  third_met true u m s b v e l ts = show_line_met ts
+  third_met false true m s b v e l ts = under_line_met ts
+  third_met false false m s b v e l ts =
+      met_map state_of (with_saved said) (saved_by m s b v e l ts) _ (saved_met m s b v e l ts)
 
   -- a line of too few tokens says nothing
   few_met : (w m : Bool) (ts : List (List ℕ)) (u : StateView) → w ≡ false → m ≡ false →
-      u ≡ at Beginning → Met state_of (by_words w w m m w w w ts) u
+      u ≡ at Beginning → Met state_of (by_words w w m m w w w w ts) u
   few_met true m ts u e f h = absurd (cc)
   few_met false true ts u e f h = absurd (cc)
-  few_met false false ts u e f h = nothing_said k.named
-    where
-      nothing_said : (named : Bool) → Met state_of (and_then (λ x. Ok (with_saved said x)) (cond named (Ok k) (Ok k))) u
-      nothing_said true = h
-      nothing_said false = h
+  few_met false false ts u e f h = h
 
   pub comment_met : (t : List ℕ) (ts : List (List ℕ)) → begins_with (seen_token t) 99 ≡ true →
       Met state_of (comment_says n said (t ∷ ts)) (line_said n (at Beginning) (t ∷ ts))
@@ -316,10 +312,10 @@ module _ (n : ℕ) (o : Option Below) (ms : List ListLine) (gs : List Given) (k 
       let a : Bool = bytes_eq u (codes "allsat") in
       let one : Bool = eqb n 1 in
       let is : (w : List ℕ) → Bool = λ w. bytes_eq v w in
-      met_same state_of (by_words (three c p (is (codes "show"))) (three c p (is (codes "under"))) (one && three c a (is (codes "met"))) (one && three c a (is (codes "saved"))) (three c p (is (codes "cube"))) (three c p (is (codes "open"))) (three c p (is (codes "end"))) ts) _ _
+      met_same state_of (by_words (three c p (is (codes "show"))) (three c p (is (codes "under"))) (one && three c a (is (codes "met"))) (one && three c a (is (codes "saved"))) (three c p (is (codes "cube"))) (three c p (is (codes "open"))) (three c p (is (codes "end"))) (three c p (is (codes "met"))) ts) _ _
       (ap (λ x. closed n (tokens_said n (eaten n (eaten n x (seen_token u)) (seen_token v)) ts)) (first t h)
       ∙ ap (λ x. closed n (tokens_said n (eaten n x (seen_token v)) ts)) (second d u)
       ∙ ap (λ x. closed n (tokens_said n x ts)) (third d (bytes_eq (seen_token u).head (codes "p")) (one && bytes_eq (seen_token u).head (codes "allsat")) v)
-      ∙ (λ i. closed n (tokens_said n (at (in_comment k n (behind_three (words_by_head t (codes "c") (lit< tt) i) (words_by_head u (codes "p") (lit< tt) i) (one && words_by_head u (codes "allsat") (lit< tt) i) (by_kind (words_by_head v (codes "show") (lit< tt) i) (words_by_head v (codes "under") (lit< tt) i) (words_by_head v (codes "cube") (lit< tt) i) (words_by_head v (codes "open") (lit< tt) i) (words_by_head v (codes "end") (lit< tt) i)) (by_text (words_by_head v (codes "met") (lit< tt) i) (words_by_head v (codes "saved") (lit< tt) i))))) ts))
-      ∙ ap (λ x. closed n (tokens_said n (at (in_comment k n x)) ts)) (three_places one c p a (is (codes "show")) (is (codes "under")) (is (codes "met")) (is (codes "saved")) (is (codes "cube")) (is (codes "open")) (is (codes "end")) (one_word u)))
-      (third_met (three c p (is (codes "show"))) (three c p (is (codes "under"))) (one && three c a (is (codes "met"))) (one && three c a (is (codes "saved"))) (three c p (is (codes "cube"))) (three c p (is (codes "open"))) (three c p (is (codes "end"))) ts)
+      ∙ (λ i. closed n (tokens_said n (at (in_comment k n (behind_three (words_by_head t (codes "c") (lit< tt) i) (words_by_head u (codes "p") (lit< tt) i) (one && words_by_head u (codes "allsat") (lit< tt) i) (by_kind (words_by_head v (codes "show") (lit< tt) i) (words_by_head v (codes "under") (lit< tt) i) (words_by_head v (codes "cube") (lit< tt) i) (words_by_head v (codes "open") (lit< tt) i) (words_by_head v (codes "end") (lit< tt) i) (words_by_head v (codes "met") (lit< tt) i)) (by_text (words_by_head v (codes "met") (lit< tt) i) (words_by_head v (codes "saved") (lit< tt) i))))) ts))
+      ∙ ap (λ x. closed n (tokens_said n (at (in_comment k n x)) ts)) (three_places one c p a (is (codes "show")) (is (codes "under")) (is (codes "met")) (is (codes "saved")) (is (codes "cube")) (is (codes "open")) (is (codes "end")) (is (codes "met")) (one_word u)))
+      (third_met (three c p (is (codes "show"))) (three c p (is (codes "under"))) (one && three c a (is (codes "met"))) (one && three c a (is (codes "saved"))) (three c p (is (codes "cube"))) (three c p (is (codes "open"))) (three c p (is (codes "end"))) (three c p (is (codes "met"))) ts)

@@ -16,7 +16,7 @@ use Rattle.dimacs_front.specs.Steps.{needs, unless}
 use Rattle.dimacs_front.specs.HeaderLines.{Below}
 use Rattle.dimacs_front.specs.ListLines.{ListLine}
 use Rattle.dimacs_front.specs.SavedTexts.{SavedSaid}
-use Rattle.dimacs_front.specs.TextEnds.{shown_of, first_above, is_placed, first_misplaced, under_of, lowest_outside, input_of, shown_says, below_says}
+use Rattle.dimacs_front.specs.TextEnds.{shown_of, first_above, is_placed, first_misplaced, under_of, lowest_outside, first_unmet, input_of, shown_says, below_says}
 use Rattle.dimacs_front.specs.EndLaws.{IsComplete, IsUpTo, TextsAreRefusedAtTheEnd}
 
 -- ---- the tests before the show lines
@@ -29,7 +29,7 @@ ended_says n w ms gs k =
     needs (eqb (length w.clauses) w.said) (ClauseCount n w.said (length w.clauses)) (counted_says n w ms gs k)
 
 abbrev closed_says : ℕ → Below → List ListLine → List Given → SavedSaid → Result Input TextRefused
-closed_says n w ms gs k = needs (not k.named || k.ended) (SavedUnended n) (ended_says n w ms gs k)
+closed_says n w ms gs k = needs (not (k.named || k.met) || k.ended) (SavedUnended n) (ended_says n w ms gs k)
 
 closed_is : (n : ℕ) (w : Below) (ms : List ListLine) (gs : List Given) (k : SavedSaid) → w.open_clause ≡ [] →
     below_says n w ms gs k ≡ closed_says n w ms gs k
@@ -40,9 +40,9 @@ has_end true b h = h refl
 has_end false b h = refl
 
 ended_is : (n : ℕ) (w : Below) (ms : List ListLine) (gs : List Given) (k : SavedSaid) → w.open_clause ≡ [] →
-    (k.named ≡ true → k.ended ≡ true) → below_says n w ms gs k ≡ ended_says n w ms gs k
+    ((k.named || k.met) ≡ true → k.ended ≡ true) → below_says n w ms gs k ≡ ended_says n w ms gs k
 ended_is n w ms gs k e h =
-    closed_is n w ms gs k e ∙ cond-true (not k.named || k.ended) _ _ (has_end k.named k.ended h)
+    closed_is n w ms gs k e ∙ cond-true (not (k.named || k.met) || k.ended) _ _ (has_end (k.named || k.met) k.ended h)
 
 whole_is : (n : ℕ) (w : Below) (ms : List ListLine) (gs : List Given) (k : SavedSaid) → IsComplete w k →
     below_says n w ms gs k ≡ counted_says n w ms gs k
@@ -125,15 +125,18 @@ misplaced_at vs acc (b ∷ before) after g e h =
     at more true e = more e
     at more false e = absurd (cc)
 
+abbrev behind_saved : Below → List ℕ → List ℤ → SavedSaid → Result Input TextRefused
+behind_saved w vs u k = unless (first_unmet w.variables vs u k.mets) SavedBad (Ok (input_of w.variables w.clauses vs u k))
+
+abbrev behind_given : Below → List ℕ → List ℤ → SavedSaid → Result Input TextRefused
+behind_given w vs u k = unless (lowest_outside vs u k) SavedBad (behind_saved w vs u k)
+
 few_is : (n : ℕ) (w : Below) (ms : List ListLine) (gs : List Given) (k : SavedSaid) → IsComplete w k → All (IsUpTo w.variables) ms →
     length (shown_of w ms) ≤ most_shown → below_says n w ms gs k ≡
-    unless (first_misplaced (shown_of w ms) [] gs) UnderBad (unless (lowest_outside (shown_of w ms) (under_of gs (shown_of w ms)) k) SavedBad (Ok (input_of w.variables w.clauses (shown_of w ms) (under_of gs (shown_of w ms)) k)))
+    unless (first_misplaced (shown_of w ms) [] gs) UnderBad (behind_given w (shown_of w ms) (under_of gs (shown_of w ms)) k)
 few_is n w ms gs k h f le =
     fit_is n w ms gs k h f
     ∙ cond-true (nat_le (length (shown_of w ms)) most_shown) _ _ (le-leb (length (shown_of w ms)) most_shown le)
-
-abbrev behind_given : Below → List ℕ → List ℤ → SavedSaid → Result Input TextRefused
-behind_given w vs u k = unless (lowest_outside vs u k) SavedBad (Ok (input_of w.variables w.clauses vs u k))
 
 pub ends_refused : TextsAreRefusedAtTheEnd
 ends_refused = record {
@@ -144,5 +147,6 @@ ends_refused = record {
   show = λ n w before after m gs k h f above. whole_is n w (before ++ m ∷ after) gs k h ∙ ap (λ o. unless o ShowBad (shown_says n w gs k (shown_of w (before ++ m ∷ after)))) (first_is w.variables before after m f above);
   shown = λ n w ms gs k h f lt. fit_is n w ms gs k h f ∙ cond-false (nat_le (length (shown_of w ms)) most_shown) _ _ (lt-leb (length (shown_of w ms)) most_shown lt);
   under = λ n w ms before after g k h f le placed bad. few_is n w ms (before ++ g ∷ after) k h f le ∙ ap (λ o. unless o UnderBad (behind_given w (shown_of w ms) (under_of (before ++ g ∷ after) (shown_of w ms)) k)) (misplaced_at (shown_of w ms) [] before after g placed bad);
-  saved = λ n line w ms gs k h f le placed e. few_is n w ms gs k h f le ∙ ap (λ o. unless o UnderBad (behind_given w (shown_of w ms) (under_of gs (shown_of w ms)) k)) placed ∙ ap (λ o. unless o SavedBad (Ok (input_of w.variables w.clauses (shown_of w ms) (under_of gs (shown_of w ms)) k))) e;
+  saved = λ n line w ms gs k h f le placed e. few_is n w ms gs k h f le ∙ ap (λ o. unless o UnderBad (behind_given w (shown_of w ms) (under_of gs (shown_of w ms)) k)) placed ∙ ap (λ o. unless o SavedBad (behind_saved w (shown_of w ms) (under_of gs (shown_of w ms)) k)) e;
+  met = λ n line w ms gs k h f le placed inside e. few_is n w ms gs k h f le ∙ ap (λ o. unless o UnderBad (behind_given w (shown_of w ms) (under_of gs (shown_of w ms)) k)) placed ∙ ap (λ o. unless o SavedBad (behind_saved w (shown_of w ms) (under_of gs (shown_of w ms)) k)) inside ∙ ap (λ o. unless o SavedBad (Ok (input_of w.variables w.clauses (shown_of w ms) (under_of gs (shown_of w ms)) k))) e;
 }

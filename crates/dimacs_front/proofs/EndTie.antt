@@ -16,9 +16,9 @@ use Rattle.dimacs_front.specs.HeaderLines.{Below}
 use Rattle.dimacs_front.specs.ListLines.{ListLine}
 use Rattle.dimacs_front.specs.SavedTexts.{SavedSaid}
 use Rattle.dimacs_front.specs.TextLines.{Said}
-use Rattle.dimacs_front.specs.TextEnds.{is_shown, shown_of, first_above, first_misplaced, under_of, lowest_outside, input_of, shown_says, below_says, end_says}
+use Rattle.dimacs_front.specs.TextEnds.{is_shown, shown_of, first_above, first_misplaced, under_of, lowest_outside, first_unmet, input_of, shown_says, below_says, end_says}
 use Rattle.dimacs_front.specs.Machine.{StateView, is_named, name_once}
-use Rattle.dimacs_front.specs.MachineEnd.{first_name_above, range_refusal, end_refusal, or_named, names_shown, few, with_saved_lines, with_under, with_shown, by_end, end_of}
+use Rattle.dimacs_front.specs.MachineEnd.{first_name_above, range_refusal, end_refusal, or_named, names_shown, few, with_met_lines, with_saved_lines, with_under, with_shown, by_end, end_of}
 use Rattle.dimacs_front.proofs.MachineLines.{named_in, names_behind}
 use Rattle.dimacs_front.proofs.Ties.{names_of, formula_of, standing, state_of}
 use Rattle.dimacs_front.proofs.Names.{names_told}
@@ -164,14 +164,22 @@ lines_above v ks (m ∷ ms) =
 -- ---- the end
 
 module _ (w : Below) (gs : List Given) (k : SavedSaid) (vs : List ℕ) where
-  saved_said : (o : Option ℕ) →
+  met_said : (o : Option ℕ) →
       unless o SavedBad (Ok (input_of w.variables w.clauses vs (under_of gs vs) k)) ≡
-      with_saved_lines (formula_of (Some w)) vs (under_of gs vs) k o
-  saved_said None = refl
+      with_met_lines (formula_of (Some w)) vs (under_of gs vs) k o
+  met_said None = refl
+  met_said (Some line) = refl
+
+  abbrev behind_saved : Result Input TextRefused
+  behind_saved = unless (first_unmet w.variables vs (under_of gs vs) k.mets) SavedBad (Ok (input_of w.variables w.clauses vs (under_of gs vs) k))
+
+  saved_said : (o : Option ℕ) →
+      unless o SavedBad behind_saved ≡ with_saved_lines (formula_of (Some w)) vs (under_of gs vs) k o
+  saved_said None = met_said (first_unmet w.variables vs (under_of gs vs) k.mets)
   saved_said (Some line) = refl
 
   given_said : (o : Option ℕ) →
-      unless o UnderBad (unless (lowest_outside vs (under_of gs vs) k) SavedBad (Ok (input_of w.variables w.clauses vs (under_of gs vs) k))) ≡
+      unless o UnderBad (unless (lowest_outside vs (under_of gs vs) k) SavedBad behind_saved) ≡
       with_under (formula_of (Some w)) gs k vs o
   given_said None = saved_said (lowest_outside vs (under_of gs vs) k)
   given_said (Some line) = refl
@@ -207,8 +215,8 @@ below_met n w ms gs k s e =
     (λ i. filter (λ v. shown_same ms v i) (range_with_len 1 w.variables)) in
     let vs : List ℕ = names_shown there.given there.named w.variables in
     let large : first_name_above w.variables there.named ≡ first_above w.variables ms = lines_above w.variables [] ms in
-    (λ i. needs (is_nil w.open_clause) (Unfinished n) (needs (not k.named || k.ended) (SavedUnended n) (needs (eqb (length w.clauses) w.said) (ClauseCount n w.said (length w.clauses)) (unless (sym large i) ShowBad (shown_says n w gs k (sym shown i))))))
-    ∙ tests_said n there (shown_says n w gs k vs) (is_nil w.open_clause) (not k.named || k.ended) (eqb (length w.clauses) w.said) (first_name_above w.variables there.named) (ClauseCount n w.said (length w.clauses)) (few_said w gs k vs n)
+    (λ i. needs (is_nil w.open_clause) (Unfinished n) (needs (not (k.named || k.met) || k.ended) (SavedUnended n) (needs (eqb (length w.clauses) w.said) (ClauseCount n w.said (length w.clauses)) (unless (sym large i) ShowBad (shown_says n w gs k (sym shown i))))))
+    ∙ tests_said n there (shown_says n w gs k vs) (is_nil w.open_clause) (not (k.named || k.met) || k.ended) (eqb (length w.clauses) w.said) (first_name_above w.variables there.named) (ClauseCount n w.said (length w.clauses)) (few_said w gs k vs n)
     ∙ ap (λ x. by_end (end_refusal n x) n x) (sym e)
 
 said_met : (n : ℕ) (s : Said) (o : Option Below) → end_says n s o ≡ end_of n (state_of (record s { below = o }))

@@ -7,6 +7,7 @@ pub mod LawSteps
 pub mod LineTie
 pub mod ListTie
 pub mod MachineLines
+pub mod MetTie
 pub mod Names
 pub mod NumberTie
 pub mod PassedLines

@@ -1,5 +1,5 @@
 -- The lines that are refused, kind by kind.
-use Rattle.std.proofs.Common.{◌≡◌, ℕ, ◌<◌, ◌≤◌, Bool, true, false, not, cond, ◌&&◌, eqb, append-nil, List, [], ◌∷◌, ◌++◌, length, map, ℤ, pos, negsuc, nat_abs, Option, Some, None, Result, Ok, Err, codes, refl, sym, ap, ◌∙◌, arith}
+use Rattle.std.proofs.Common.{◌≡◌, ℕ, ◌<◌, ◌≤◌, Bool, true, false, not, cond, ◌&&◌, ◌||◌, eqb, append-nil, List, [], ◌∷◌, ◌++◌, length, map, ℤ, pos, negsuc, nat_abs, Option, Some, None, Result, Ok, Err, codes, refl, sym, ap, ◌∙◌, arith}
 use Rattle.std.specs.Prelude.{nat_le, nat_lt}
 use Rattle.std.specs.Str.{bytes_eq}
 use Rattle.std.specs.List.{All}
@@ -13,16 +13,16 @@ use Rattle.dimacs_front.specs.declared.under_lines.Given.{Given}
 use Rattle.dimacs_front.specs.declared.saved_lines.SavedList.{SavedList}
 use Rattle.dimacs_front.specs.declared.saved_lines.SavedList.TheVariants.{Cubes, Pending}
 use Rattle.dimacs_front.specs.declared.refused.TextRefused.{TextRefused}
-use Rattle.dimacs_front.specs.declared.refused.TextRefused.TheVariants.{BadStart, BadHeader, HeaderTwice, TooManyVariables, TooManyClauses, UnderBad, UnderUnended, SavedBad, NotBuilt}
+use Rattle.dimacs_front.specs.declared.refused.TextRefused.TheVariants.{BadStart, BadHeader, HeaderTwice, TooManyVariables, TooManyClauses, UnderBad, UnderUnended, SavedBad}
 use Rattle.dimacs_front.specs.Limits.{most_variables, most_clauses, most_literals}
 use Rattle.dimacs_front.specs.Steps.{and_then, needs}
 use Rattle.dimacs_front.specs.HeaderLines.{Below, natural, header_of, header_says}
 use Rattle.dimacs_front.specs.NumberLines.{literals_of, number_says, numbers_say}
 use Rattle.dimacs_front.specs.ListLines.{ListLine, list_says, in_line, is_literal}
 use Rattle.dimacs_front.specs.LineWords.{words_of, own_words}
-use Rattle.dimacs_front.specs.SavedTexts.{SavedSaid, is_version, with_line, rising_says}
+use Rattle.dimacs_front.specs.SavedTexts.{SavedSaid, is_version, is_met_version, with_line, with_met, rising_says, up_to_zero, behind_zero, hidden_says, last_says}
 use Rattle.dimacs_front.specs.TextLines.{Said, with_below, with_given, with_saved, comment_says, line_says}
-use Rattle.dimacs_front.specs.RefusalLaws.{said_above, said_below, IsHeader, LinesAboveTheHeaderAreRefused, BeginsNumbers, LinesBelowTheHeaderAreRefused, IsHeld, values, is_barred, ListsAreRefused, UnderLinesAreLists, word_of, said_saved, SavedLinesAreRefused}
+use Rattle.dimacs_front.specs.RefusalLaws.{said_above, said_below, IsHeader, LinesAboveTheHeaderAreRefused, BeginsNumbers, LinesBelowTheHeaderAreRefused, IsHeld, values, is_barred, ListsAreRefused, UnderLinesAreLists, word_of, said_saved, SavedLinesAreRefused, said_met, MetLinesAreRefused}
 use Rattle.dimacs_front.proofs.LawSteps.{first_number}
 
 -- a token that begins with one byte begins with no other
@@ -232,10 +232,10 @@ and_false false = refl
 
 -- a comment line of a saved text that names neither a text nor a list of another kind
 own_line : (n : ℕ) (s : Said) (v : List (List ℕ)) (x y : Result SavedSaid TextRefused) → x ≡ y →
-    needs (not (eqb n 1 && false)) (NotBuilt n) (and_then (λ k. Ok (with_saved s k)) (cond (eqb n 1 && false) (needs (is_version v) (SavedBad n) (Ok (record s.saved { named = true }))) x)) ≡
+    and_then (λ k. Ok (with_saved s k)) (cond (eqb n 1 && false) (needs (is_met_version v) (SavedBad n) (Ok (record s.saved { met = true }))) (cond (eqb n 1 && false) (needs (is_version v) (SavedBad n) (Ok (record s.saved { named = true }))) x)) ≡
     and_then (λ k. Ok (with_saved s k)) y
 own_line n s v x y e =
-    ap (λ b. needs (not b) (NotBuilt n) (and_then (λ k. Ok (with_saved s k)) (cond b (needs (is_version v) (SavedBad n) (Ok (record s.saved { named = true }))) x))) (and_false (eqb n 1))
+    ap (λ b. and_then (λ k. Ok (with_saved s k)) (cond b (needs (is_met_version v) (SavedBad n) (Ok (record s.saved { met = true }))) (cond b (needs (is_version v) (SavedBad n) (Ok (record s.saved { named = true }))) x))) (and_false (eqb n 1))
     ∙ ap (and_then (λ k. Ok (with_saved s k))) e
 
 list_line : (n : ℕ) (o : Option Below) (ms : List ListLine) (gs : List Given) (k : SavedSaid) (list : SavedList) (ts : List (List ℕ)) →
@@ -270,10 +270,58 @@ other_version s ts going e =
     ap (λ b. cond b (Ok s) (comment_says 1 s (own_words (codes "saved") ++ ts))) going
     ∙ ap (λ b. and_then (λ k. Ok (with_saved s k)) (needs b (SavedBad 1) (Ok (record s.saved { named = true })))) e
 
-met_text : (s : Said) (ts : List (List ℕ)) → s.over ≡ false →
-    line_says 1 s (own_words (codes "met") ++ ts) ≡ Err (NotBuilt 1)
+-- ---- the lines of a met text's own
+
+module _ (n : ℕ) (o : Option Below) (ms : List ListLine) (gs : List Given) (k : SavedSaid) (ts : List (List ℕ)) where
+  abbrev met_so_far : SavedSaid
+  met_so_far = record k { met = true; ended = false }
+
+  abbrev held : List (Option ℤ)
+  held = map token_value ts
+
+  first_list : (r : TextRefused) → rising_says n (up_to_zero held) ≡ Err r →
+      line_says n (said_met o ms gs k false) (words_of (codes "met") ++ ts) ≡ Err r
+  unfolding line_says
+  first_list r e = own_line n (said_met o ms gs k false) ts _ (Err r) (ap (and_then (hidden_says n met_so_far (behind_zero held))) e)
+
+  second_list : (ls : List ℤ) (r : TextRefused) → rising_says n (up_to_zero held) ≡ Ok ls → rising_says n (behind_zero held) ≡ Err r →
+      line_says n (said_met o ms gs k false) (words_of (codes "met") ++ ts) ≡ Err r
+  unfolding line_says
+  second_list ls r e f =
+      own_line n (said_met o ms gs k false) ts _ (Err r)
+      (ap (and_then (hidden_says n met_so_far (behind_zero held))) e
+      ∙ ap (and_then (λ hs. Ok (with_met met_so_far (record { line = n; met = record { cube = ls; hidden = hs } })))) f)
+
+  met_behind : line_says n (said_met o ms gs k true) (words_of (codes "met") ++ ts) ≡ Err (SavedBad n)
+  unfolding line_says
+  met_behind = own_line n (said_met o ms gs k true) ts _ (Err (SavedBad n)) refl
+
+  or_true : (b : Bool) → (b || true) ≡ true
+  or_true true = refl
+  or_true false = refl
+
+  met_end_behind : line_says n (said_met o ms gs k true) (words_of (codes "end") ++ ts) ≡ Err (SavedBad n)
+  unfolding line_says
+  met_end_behind =
+      let before : SavedSaid = record k { met = true; ended = true } in
+      own_line n (said_met o ms gs k true) ts _ (Err (SavedBad n))
+      (ap (λ b. cond b (needs false (SavedBad n) (last_says n before ts)) (Ok before)) (or_true k.named))
+
+other_met_version : (s : Said) (ts : List (List ℕ)) → s.over ≡ false → is_met_version ts ≡ false →
+    line_says 1 s (own_words (codes "met") ++ ts) ≡ Err (SavedBad 1)
 unfolding line_says
-met_text s ts going = ap (λ b. cond b (Ok s) (comment_says 1 s (own_words (codes "met") ++ ts))) going
+other_met_version s ts going e =
+    ap (λ b. cond b (Ok s) (comment_says 1 s (own_words (codes "met") ++ ts))) going
+    ∙ ap (λ b. and_then (λ k. Ok (with_saved s k)) (needs b (SavedBad 1) (Ok (record s.saved { met = true })))) e
+
+pub met_refused : MetLinesAreRefused
+met_refused = record {
+  cube = first_list;
+  hidden = second_list;
+  behind = met_behind;
+  end_behind = met_end_behind;
+  version = other_met_version;
+}
 
 pub saved_refused : SavedLinesAreRefused
 saved_refused = record {
@@ -283,5 +331,4 @@ saved_refused = record {
   list_behind = list_after;
   end_behind = end_after;
   version = other_version;
-  met = met_text;
 }

@@ -224,7 +224,7 @@ module _ (s : Subject) (found pending : List (List ℤ)) (limits : IsWithinLimit
       (none_misplaced above s.shown [] 0 s.under limits.subject.under.over limits.subject.under.rising (λ l h. refl))
       ∙ ap (λ u. unless (lowest_outside s.shown u k) SavedBad (Ok (input_of v cs s.shown u k))) given_back
       ∙ (λ i. unless (lower_line (none_outside s.shown s.under a found cubes i) (none_outside s.shown s.under b pending prefixes i)) SavedBad (Ok (input_of v cs s.shown s.under k)))
-      ∙ (λ i. Ok (record { subject = s; saved = Some (record { cubes = numbered_cubes a found i; pending = numbered_cubes b pending i }) }))
+      ∙ (λ i. Ok (record { subject = s; saved = Some (record { cubes = numbered_cubes a found i; pending = numbered_cubes b pending i }); met = None }))
 
   pub saved_back : length (saved_text s found pending) ≤ most_bytes → reads (saved_text s found pending) ≡ Ok (saved_input s found pending)
   unfolding reads lines_say

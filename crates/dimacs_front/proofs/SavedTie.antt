@@ -1,4 +1,5 @@
--- The lines of a saved text's own say to the machine what they say.
+-- The lines of a saved text's own say to the machine what they say, and so do the lists of any such
+-- line.
 use Rattle.std.proofs.Common.{◌≡◌, ℕ, Bool, true, false, cond, ◌&&◌, ◌||◌, eqb, leb, ltb, List, [], ◌∷◌, ◌++◌, map, ℤ, nat_abs, Option, Some, None, Result, Ok, Err, refl, sym, subst, ap, ◌∙◌, append-nil, append_assoc, lit<}
 use Rattle.std.specs.Prelude.{codes}
 use Rattle.std.specs.Str.{bytes_eq}
@@ -9,6 +10,8 @@ use Rattle.sat_terms.specs.Cubes.{rises_above, last_variable}
 use Rattle.dimacs_front.specs.declared.refused.TextRefused.{TextRefused}
 use Rattle.dimacs_front.specs.declared.refused.TextRefused.TheVariants.{SavedBad}
 use Rattle.dimacs_front.specs.declared.saved_lines.SavedList.{SavedList}
+use Rattle.dimacs_front.specs.declared.saved_place.OpenList.{OpenList}
+use Rattle.dimacs_front.specs.declared.saved_place.OpenList.TheVariants.{Line}
 use Rattle.dimacs_front.specs.declared.saved_place.SavedPlace.TheVariants.{First, Listed, Complete, End}
 use Rattle.dimacs_front.specs.declared.line_place.LinePlace.TheVariants.{Beginning, Saved}
 use Rattle.dimacs_front.specs.Limits.{most_variables}
@@ -25,10 +28,10 @@ abbrev pub below_saved : StateView → SavedSaid → StateView
 below_saved s k = record s { place = Beginning; saved = k }
 
 module _ (n : ℕ) where
-  abbrev bad : TextRefused
+  abbrev pub bad : TextRefused
   bad = SavedBad n
 
-  abbrev ends : StateView → List (List ℕ) → StateView
+  abbrev pub ends : StateView → List (List ℕ) → StateView
   ends s ts = closed n (tokens_said n s ts)
 
   -- ---- nothing more may stand in the line
@@ -38,11 +41,11 @@ module _ (n : ℕ) where
   unfolding eaten
   complete_more s t ts = refl
 
-  complete_refused : (s : StateView) (t : List ℕ) (ts : List (List ℕ)) →
+  pub complete_refused : (s : StateView) (t : List ℕ) (ts : List (List ℕ)) →
       Met (λ (u : StateView). u) (Err bad) (ends (at_place s (Saved Complete)) (t ∷ ts))
   complete_refused s t ts = complete_more s t ts ∙ refused_line n (refuse s bad) bad ts refl
 
-  complete_closed : (s : StateView) → closed n (at_place s (Saved Complete)) ≡ at_place s Beginning
+  pub complete_closed : (s : StateView) → closed n (at_place s (Saved Complete)) ≡ at_place s Beginning
   unfolding closed
   complete_closed s = refl
 
@@ -108,15 +111,15 @@ module _ (n : ℕ) where
 
   -- ---- a cube line, and an open line
 
-  abbrev list : List (Option ℤ) → Result (List ℤ) TextRefused
+  abbrev pub list : List (Option ℤ) → Result (List ℤ) TextRefused
   list os = list_says is_literal bad bad os
 
   -- the literals, where their variables rise above this one
-  abbrev rising : ℕ → List ℤ → Result (List ℤ) TextRefused
+  abbrev pub rising : ℕ → List ℤ → Result (List ℤ) TextRefused
   rising v ls = needs (rises_above v ls) bad (Ok ls)
 
   -- where they do not, the line is refused, whatever follows
-  abbrev nothing : List ℤ → Result (List ℤ) TextRefused
+  abbrev pub nothing : List ℤ → Result (List ℤ) TextRefused
   nothing ls = Err bad
 
   none_more : (l : ℤ) (x : Result (List ℤ) TextRefused) → and_then nothing x ≡ Err bad →
@@ -131,24 +134,24 @@ module _ (n : ℕ) where
   none_value l false true e x h = none_more l x h
   none_value l false false e x h = refl
 
-  none_listed : (os : List (Option ℤ)) → and_then nothing (list os) ≡ Err bad
+  pub none_listed : (os : List (Option ℤ)) → and_then nothing (list os) ≡ Err bad
   none_listed [] = refl
   none_listed (None ∷ os) = refl
   none_listed (Some l ∷ os) =
       none_value l (eqb (nat_abs l) 0) (leb (nat_abs l) most_variables) (is_nil os) (list os) (none_listed os)
 
-  falls_more : (l : ℤ) (x : Result (List ℤ) TextRefused) →
+  pub falls_more : (l : ℤ) (x : Result (List ℤ) TextRefused) →
       and_then (λ ls. needs (false && rises_above (nat_abs l) ls) bad (Ok (l ∷ ls))) x ≡ and_then nothing x
   falls_more l (Ok ls) = refl
   falls_more l (Err r) = refl
 
-  first_of_list : (v : ℕ) (l : ℤ) (q : Bool) (x : Result (List ℤ) TextRefused) → ltb v (nat_abs l) ≡ q →
+  pub first_of_list : (v : ℕ) (l : ℤ) (q : Bool) (x : Result (List ℤ) TextRefused) → ltb v (nat_abs l) ≡ q →
       and_then (rising v) (and_then (λ ls. Ok (l ∷ ls)) x) ≡
       and_then (λ ls. needs (q && rises_above (nat_abs l) ls) bad (Ok (l ∷ ls))) x
   first_of_list v l q (Ok ls) e = ap (λ b. needs (b && rises_above (nat_abs l) ls) bad (Ok (l ∷ ls))) e
   first_of_list v l q (Err r) e = refl
 
-  met_more_rising : (f : List ℤ → StateView) (l : ℤ) (x : Result (List ℤ) TextRefused) (u : StateView) →
+  pub met_more_rising : (f : List ℤ → StateView) (l : ℤ) (x : Result (List ℤ) TextRefused) (u : StateView) →
       Met (λ ls. f (l ∷ ls)) (and_then (rising (nat_abs l)) x) u →
       Met f (and_then (λ ls. needs (true && rises_above (nat_abs l) ls) bad (Ok (l ∷ ls))) x) u
   met_more_rising f l (Ok ls) u h = at (rises_above (nat_abs l) ls) h
@@ -158,12 +161,14 @@ module _ (n : ℕ) where
       at false h = h
   met_more_rising f l (Err r) u h = h
 
-  module _ (kind : SavedList) (s : StateView) where
+  -- a list with which its line ends: behind it the machine has kept these literals
+  module _ (kind : OpenList) (s : StateView) (keeps : List ℤ → StateView)
+      (ended : (done : List ℤ) → list_ended kind n (record s { place = Saved (Listed kind); lits = done }) ≡ at_place (keeps done) (Saved Complete)) where
     abbrev listing : List ℤ → StateView
     listing done = record s { place = Saved (Listed kind); lits = done }
 
     abbrev kept : List ℤ → StateView
-    kept ls = record s { place = Beginning; saved = with_line kind s.saved (record { line = n; cube = ls }); lits = [] }
+    kept ls = at_place (keeps ls) Beginning
 
     abbrev Lists : List ℤ → List (List ℕ) → Type 0
     Lists done ts =
@@ -177,8 +182,9 @@ module _ (n : ℕ) where
         Met (λ ls. kept (done ++ ls)) (and_then (rising (last_variable 0 done)) (needs (is_nil (map token_value ts)) bad (Ok [])))
         (ends (list_ended kind n (listing done)) ts)
     zero_met done [] =
-        complete_closed (list_ended kind n (listing done)) ∙ ap kept (sym (append-nil done))
-    zero_met done (t ∷ ts) = complete_refused (list_ended kind n (listing done)) t ts
+        ap (closed n) (ended done) ∙ complete_closed (keeps done) ∙ ap kept (sym (append-nil done))
+    zero_met done (t ∷ ts) =
+        met_same (λ ls. kept (done ++ ls)) (Err bad) _ _ (ap (λ x. ends x (t ∷ ts)) (ended done)) (complete_refused (keeps done) t ts)
 
     pushed_met : (done : List ℤ) (l : ℤ) (ts : List (List ℕ)) → Lists (done ++ l ∷ []) ts →
         Met (λ ls. kept (done ++ (l ∷ ls))) (and_then (rising (nat_abs l)) (list (map token_value ts))) (ends (listing (done ++ l ∷ [])) ts)
@@ -210,15 +216,21 @@ module _ (n : ℕ) where
     value_met done (Some l) ts ih =
         literal_met done l (eqb (nat_abs l) 0) (leb (nat_abs l) most_variables) (ltb (last_variable 0 done) (nat_abs l)) ts refl ih
 
-    listed_met : (done : List ℤ) (ts : List (List ℕ)) → Lists done ts
+    pub listed_met : (done : List ℤ) (ts : List (List ℕ)) → Lists done ts
     unfolding eaten seen_token
     listed_met done [] = unended done
     listed_met done (t ∷ ts) = value_met done (token_value t) ts (λ ks. listed_met ks ts)
 
+  -- a cube line, and an open line
+  module _ (list : SavedList) (s : StateView) where
+    abbrev with_cube : List ℤ → StateView
+    with_cube ls = record s { saved = with_line list s.saved (record { line = n; cube = ls }); lits = [] }
+
     pub cube_line_met : s.lits ≡ [] → (ts : List (List ℕ)) →
-        Met (below_saved s) (cube_says kind n s.saved ts) (ends (at_place s (Saved (Listed kind))) ts)
+        Met (below_saved s) (cube_says list n s.saved ts) (ends (at_place s (Saved (Listed (Line list)))) ts)
     cube_line_met e ts =
-        met_map (below_saved s) (λ ls. with_line kind s.saved (record { line = n; cube = ls })) (rising_says n (map token_value ts)) _
-        (met_as kept (λ ls. below_saved s (with_line kind s.saved (record { line = n; cube = ls }))) (rising_says n (map token_value ts)) _
-        (λ ls. ap (λ ks. record s { place = Beginning; saved = with_line kind s.saved (record { line = n; cube = ls }); lits = ks }) (sym e))
-        (subst (λ ks. Met kept (rising_says n (map token_value ts)) (ends (record s { place = Saved (Listed kind); lits = ks }) ts)) (sym e) (listed_met [] ts)))
+        met_map (below_saved s) (λ ls. with_line list s.saved (record { line = n; cube = ls })) (rising_says n (map token_value ts)) _
+        (met_as (λ ls. at_place (with_cube ls) Beginning) (λ ls. below_saved s (with_line list s.saved (record { line = n; cube = ls }))) (rising_says n (map token_value ts)) _
+        (λ ls. ap (λ ks. record s { place = Beginning; saved = with_line list s.saved (record { line = n; cube = ls }); lits = ks }) (sym e))
+        (subst (λ ks. Met (λ ls. at_place (with_cube ls) Beginning) (rising_says n (map token_value ts)) (ends (record s { place = Saved (Listed (Line list)); lits = ks }) ts)) (sym e)
+        (listed_met (Line list) s with_cube (λ done. refl) [] ts)))

@@ -8,7 +8,7 @@ use Rattle.dimacs_tokens.specs.Cuts.{tokens}
 use Rattle.dimacs_tokens.specs.Numbers.{token_value}
 use Rattle.dimacs_tokens.specs.Seen.{list_begins}
 use Rattle.dimacs_front.specs.declared.refused.TextRefused.{TextRefused}
-use Rattle.dimacs_front.specs.declared.refused.TextRefused.TheVariants.{BadStart, HeaderTwice, NotBuilt, ShowBad, ShowUnended}
+use Rattle.dimacs_front.specs.declared.refused.TextRefused.TheVariants.{BadStart, HeaderTwice, ShowBad, ShowUnended}
 use Rattle.dimacs_front.specs.Steps.{and_then, steps}
 use Rattle.dimacs_front.specs.HeaderLines.{Below, header_says}
 use Rattle.dimacs_front.specs.NumberLines.{numbers_say}
@@ -69,8 +69,7 @@ module _ (n : ℕ) (s : Said) (h : Rise n s) where
       (list_kept (list_says is_variable (ShowBad (n + 1)) (ShowUnended (n + 1)) (map token_value (drop 3 ts))))
       (either (n + 1) (begins_by (words_of (codes "under")) ts) _ _
       (each (n + 1) (with_given s) (under_says (n + 1) (map token_value (drop 3 ts))) (λ m. same (with_given s m) refl))
-      (either (n + 1) (not (eqb (n + 1) 1 && begins_by (own_words (codes "met")) ts)) _ (Err (NotBuilt (n + 1)))
-      (each (n + 1) (with_saved s) (saved_says (n + 1) s.saved ts) (λ k. same (with_saved s k) refl)) tt))
+      (each (n + 1) (with_saved s) (saved_says (n + 1) s.saved ts) (λ k. same (with_saved s k) refl)))
 
   plain_kept : (o : Option Below) (t : List ℕ) (ts : List (List ℕ)) →
       Keeps (n + 1) (plain_says (n + 1) s o t ts)

@@ -22,22 +22,23 @@ use Rattle.dimacs_front.specs.declared.line_place.LinePlace.{LinePlace}
 use Rattle.dimacs_front.specs.declared.header_place.HeaderPlace.{HeaderPlace}
 use Rattle.dimacs_front.specs.declared.header_place.HeaderPlace.TheVariants.{Word, Variables, Clauses, End, Broken}
 use Rattle.dimacs_front.specs.declared.line_place.LinePlace.TheVariants.{Beginning, Header, Numbers, Comment, Show, ShowEnd, Under, UnderEnd, Saved, Over, Refused}
-use Rattle.dimacs_front.specs.declared.saved_lines.SavedList.{SavedList}
+use Rattle.dimacs_front.specs.declared.saved_place.OpenList.{OpenList}
+use Rattle.dimacs_front.specs.declared.saved_place.OpenList.TheVariants.{Line, Shown, Hidden}
 use Rattle.dimacs_front.specs.declared.saved_place.SavedPlace.{SavedPlace}
 use Rattle.dimacs_front.specs.declared.saved_place.SavedPlace.TheVariants as saved
-use Rattle.dimacs_front.specs.declared.saved_place.SavedPlace.TheVariants.{First, Listed, Complete}
+use Rattle.dimacs_front.specs.declared.saved_place.SavedPlace.TheVariants.{First, MetFirst, Listed, Complete}
 use Rattle.dimacs_front.specs.declared.show_lines.Named.{Named}
 use Rattle.dimacs_front.specs.declared.under_lines.Given.{Given}
 use Rattle.dimacs_front.specs.declared.input.Input.{Input}
-use Rattle.dimacs_front.specs.TextEnds.{first_misplaced, under_of, lowest_outside, input_of}
+use Rattle.dimacs_front.specs.TextEnds.{first_misplaced, under_of, lowest_outside, first_unmet, input_of}
 use Rattle.sat_terms.specs.Cubes.{has_literal, last_variable}
 use Rattle.sat_terms.specs.Subjects.{IsVariableList}
 use Rattle.dimacs_front.specs.HeaderLines.{natural}
 use Rattle.dimacs_front.specs.Limits.{most_bytes, most_variables, most_clauses, most_literals, most_shown}
 use Rattle.dimacs_front.specs.MachinePlaces.{above_begun, in_comment}
 use Rattle.dimacs_front.specs.MachineComment.{comment_begun}
-use Rattle.dimacs_front.specs.Machine.{WrittenView, nothing_written, clause_written, literal_written, StateView, at_place, refuse, in_clauses, zero_eaten, literal_eaten, number_eaten, show_ended, variable_named, shown_eaten, literal_given, under_eaten, below_begun, line_begun, eaten_at, eaten, below_header, header_ended, closed_at, closed, literal_listed, listed_eaten, text_named, saved_eaten}
-use Rattle.dimacs_front.specs.MachineEnd.{end_refusal, or_named, names_shown, few, with_saved_lines, with_under, with_shown, by_end, end_of}
+use Rattle.dimacs_front.specs.Machine.{WrittenView, nothing_written, clause_written, literal_written, StateView, at_place, refuse, in_clauses, zero_eaten, literal_eaten, number_eaten, show_ended, variable_named, shown_eaten, literal_given, under_eaten, below_begun, line_begun, eaten_at, eaten, below_header, header_ended, closed_at, closed, literal_listed, list_ended, listed_eaten, text_named, met_named, saved_eaten}
+use Rattle.dimacs_front.specs.MachineEnd.{end_refusal, or_named, names_shown, few, with_met_lines, with_saved_lines, with_under, with_shown, by_end, end_of}
 use Rattle.dimacs_front.specs.Whole.{last_line}
 use Rattle.dimacs_front.specs.MachineText.{TextView, text_at_start, eat_token, close_line, text_after, answer_by, answer, machine_reads}
 use Rattle.fault_io.specs.Sources.{SourceView}
@@ -158,17 +159,24 @@ begun_sound n s t h =
     (either_sound (begins_with t 112) (refuse s (HeaderTwice n)) _ h (either_sound (begins_with t 37) (at_place s Over) _ h numbered))
     h)
 
-listed_sound : (list : SavedList) (n : ℕ) (s : StateView) (o : Option ℤ) → IsSoundState s →
+list_sound : (list : OpenList) (n : ℕ) (s : StateView) → IsSoundState s → IsSoundState (list_ended list n s)
+list_sound (Line kind) n s h = h
+list_sound Shown n s h = h
+list_sound Hidden n s h = h
+
+listed_sound : (list : OpenList) (n : ℕ) (s : StateView) (o : Option ℤ) → IsSoundState s →
     IsSoundState (listed_eaten list n s o)
 listed_sound list n s None h = h
 listed_sound list n s (Some l) h =
-    either_sound (eqb (nat_abs l) 0) _ _ h
+    either_sound (eqb (nat_abs l) 0) _ _ (list_sound list n s h)
     (either_sound (leb (nat_abs l) most_variables && ltb (last_variable 0 s.lits) (nat_abs l)) (literal_listed s l) (refuse s (SavedBad n)) h h)
 
 saved_sound : (p : SavedPlace) (n : ℕ) (s : StateView) (t : SeenView) → IsSoundState s →
     IsSoundState (saved_eaten p n s t)
 saved_sound First n s t h =
     either_sound (bytes_eq t.head (codes "1") || bytes_eq t.head (codes "2")) (text_named s) (refuse s (SavedBad n)) h h
+saved_sound MetFirst n s t h =
+    either_sound (bytes_eq t.head (codes "1")) (met_named s) (refuse s (SavedBad n)) h h
 saved_sound (Listed list) n s t h = listed_sound list n s (value_of t.number) h
 saved_sound Complete n s t h = h
 saved_sound saved.End n s t h = h
@@ -220,6 +228,7 @@ closed_sound-at ShowEnd n s h = h
 closed_sound-at Under n s h = h
 closed_sound-at UnderEnd n s h = h
 closed_sound-at (Saved First) n s h = h
+closed_sound-at (Saved MetFirst) n s h = h
 closed_sound-at (Saved (Listed list)) n s h = h
 closed_sound-at (Saved Complete) n s h = h
 closed_sound-at (Saved saved.End) n s h = h
@@ -312,12 +321,19 @@ shown_limits s vs e le h =
       shown = le;
     }
 
+met_limits : (s : StateView) (input : Input) (vs : List ℕ) (o : Option ℕ) →
+    vs ≡ names_shown s.given s.named s.formula.variables → length vs ≤ most_shown →
+    IsSound s.formula → with_met_lines s.formula vs (under_of s.under vs) s.saved o ≡ Ok input → IsWithinLimits input
+met_limits s input vs None e le h k =
+    let same : input_of s.formula.variables s.formula.clauses vs (under_of s.under vs) s.saved ≡ input = cc in
+    subst IsWithinLimits same (shown_limits s vs e le h)
+met_limits s input vs (Some line) e le h k = absurd (cc)
+
 saved_limits : (s : StateView) (input : Input) (vs : List ℕ) (o : Option ℕ) →
     vs ≡ names_shown s.given s.named s.formula.variables → length vs ≤ most_shown →
     IsSound s.formula → with_saved_lines s.formula vs (under_of s.under vs) s.saved o ≡ Ok input → IsWithinLimits input
 saved_limits s input vs None e le h k =
-    let same : input_of s.formula.variables s.formula.clauses vs (under_of s.under vs) s.saved ≡ input = cc in
-    subst IsWithinLimits same (shown_limits s vs e le h)
+    met_limits s input vs (first_unmet s.formula.variables vs (under_of s.under vs) s.saved.mets) e le h k
 saved_limits s input vs (Some line) e le h k = absurd (cc)
 
 under_limits : (s : StateView) (input : Input) (vs : List ℕ) (o : Option ℕ) →

@@ -49,6 +49,7 @@ standing p o ms gs k = record {
   under = gs;
   saved = k;
   lits = [];
+  first = [];
 }
 
 abbrev pub place_of : Bool → LinePlace

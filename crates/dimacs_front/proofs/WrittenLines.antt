@@ -16,7 +16,7 @@ use Rattle.sat_terms.specs.Literals.{IsLiteralOf}
 use Rattle.sat_terms.specs.Cubes.{rises_above}
 use Rattle.checkpoint.specs.SavedText.{version_line, clause_line, shown_line, given_line, found_line, open_line, closing_line}
 use Rattle.dimacs_front.specs.declared.refused.TextRefused.{TextRefused}
-use Rattle.dimacs_front.specs.declared.refused.TextRefused.TheVariants.{NotBuilt, SavedBad, UnderBad, UnderUnended}
+use Rattle.dimacs_front.specs.declared.refused.TextRefused.TheVariants.{SavedBad, UnderBad, UnderUnended}
 use Rattle.dimacs_front.specs.declared.under_lines.Given.{Given}
 use Rattle.dimacs_front.specs.declared.saved_lines.SavedLine.{SavedLine}
 use Rattle.dimacs_front.specs.declared.saved_lines.SavedList.TheVariants.{Cubes, Pending}
@@ -26,7 +26,7 @@ use Rattle.dimacs_front.specs.HeaderLines.{Below, header_of, natural, header_say
 use Rattle.dimacs_front.specs.LineWords.{words_of}
 use Rattle.dimacs_front.specs.NumberLines.{literals_of, literal_added, number_says, numbers_say}
 use Rattle.dimacs_front.specs.ListLines.{ListLine, list_says, in_line, is_literal, under_says}
-use Rattle.dimacs_front.specs.SavedTexts.{SavedSaid, nothing_saved, is_version, with_line, rising_says}
+use Rattle.dimacs_front.specs.SavedTexts.{SavedSaid, nothing_saved, is_version, is_met_version, with_line, rising_says}
 use Rattle.dimacs_front.specs.TextLines.{Said, with_below, with_given, with_saved, line_says, Lines, nothing_said, no_line, next_line}
 use Rattle.dimacs_front.specs.TextLaws.{IsVariable, variables}
 use Rattle.dimacs_front.proofs.LawSteps.{numbers_line, show_line, steps_append}
@@ -51,7 +51,7 @@ steps_are j k xs ys h = steps_append next_line j xs ys ∙ ap (and_then (λ b. s
 -- ---- the state within a saved text
 
 abbrev pub saved_so_far : List SavedLine → List SavedLine → Bool → SavedSaid
-saved_so_far cs ps e = record { named = true; cubes = cs; pending = ps; ended = e }
+saved_so_far cs ps e = record { named = true; cubes = cs; pending = ps; met = false; mets = []; ended = e }
 
 abbrev pub said_so_far : Below → List ListLine → List Given → SavedSaid → Said
 said_so_far w ms gs k = record { below = Some w; shows = ms; given = gs; saved = k; over = false }
@@ -277,7 +277,7 @@ module _ (w : Below) (ms : List ListLine) (gs : List Given) where
       let s : Said = said_so_far w ms gs (saved_so_far cs ps false) in
       let k : SavedSaid = saved_so_far cs ps false in
       let x : Result SavedSaid TextRefused = and_then (λ ls. Ok (with_line Cubes k (record { line = n; cube = ls }))) (rising_says n (map token_value (written c))) in
-      ap (λ b. needs (not b) (NotBuilt n) (and_then (λ m. Ok (with_saved s m)) (cond b (needs (is_version (written c)) (SavedBad n) (Ok (record k { named = true }))) x))) (and_false (eqb n 1))
+      ap (λ b. and_then (λ m. Ok (with_saved s m)) (cond b (needs (is_met_version (written c)) (SavedBad n) (Ok (record k { met = true }))) (cond b (needs (is_version (written c)) (SavedBad n) (Ok (record k { named = true }))) x))) (and_false (eqb n 1))
       ∙ ap (λ y. and_then (λ m. Ok (with_saved s m)) (and_then (λ ls. Ok (with_line Cubes k (record { line = n; cube = ls }))) y)) (rising_back n c h up)
 
   open_tokens_say : (n : ℕ) (cs ps : List SavedLine) (c : List ℤ) → All IsListed c → rises_above 0 c ≡ true →
@@ -288,7 +288,7 @@ module _ (w : Below) (ms : List ListLine) (gs : List Given) where
       let s : Said = said_so_far w ms gs (saved_so_far cs ps false) in
       let k : SavedSaid = saved_so_far cs ps false in
       let x : Result SavedSaid TextRefused = and_then (λ ls. Ok (with_line Pending k (record { line = n; cube = ls }))) (rising_says n (map token_value (written c))) in
-      ap (λ b. needs (not b) (NotBuilt n) (and_then (λ m. Ok (with_saved s m)) (cond b (needs (is_version (written c)) (SavedBad n) (Ok (record k { named = true }))) x))) (and_false (eqb n 1))
+      ap (λ b. and_then (λ m. Ok (with_saved s m)) (cond b (needs (is_met_version (written c)) (SavedBad n) (Ok (record k { met = true }))) (cond b (needs (is_version (written c)) (SavedBad n) (Ok (record k { named = true }))) x))) (and_false (eqb n 1))
       ∙ ap (λ y. and_then (λ m. Ok (with_saved s m)) (and_then (λ ls. Ok (with_line Pending k (record { line = n; cube = ls }))) y)) (rising_back n c h up)
 
   cube_is_read : (n : ℕ) (cs ps : List SavedLine) (c : List ℤ) → CanBeListed c →
@@ -336,7 +336,8 @@ module _ (w : Below) (ms : List ListLine) (gs : List Given) where
   unfolding line_says
   end_tokens_say n cs ps =
       let s : Said = said_so_far w ms gs (saved_so_far cs ps false) in
-      ap (λ b. needs (not b) (NotBuilt n) (and_then (λ m. Ok (with_saved s m)) (cond b (needs false (SavedBad n) (Ok (record (saved_so_far cs ps false) { named = true }))) (Ok (saved_so_far cs ps true))))) (and_false (eqb n 1))
+      let k : SavedSaid = saved_so_far cs ps false in
+      ap (λ b. and_then (λ m. Ok (with_saved s m)) (cond b (needs false (SavedBad n) (Ok (record k { met = true }))) (cond b (needs false (SavedBad n) (Ok (record k { named = true }))) (Ok (saved_so_far cs ps true))))) (and_false (eqb n 1))
 
   end_tokens : tokens closing_line ≡ words_of (codes "end")
   unfolding cut_tokens is_white

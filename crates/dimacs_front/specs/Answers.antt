@@ -5,6 +5,8 @@ use Rattle.std.specs.List.{All, sum_by}
 use Rattle.sat_terms.specs.Cubes.{within, IsCube}
 use Rattle.sat_terms.specs.Subjects.{IsSubject}
 use Rattle.checkpoint.specs.declared.saved.Saved.{Saved}
+use Rattle.cube_check.specs.declared.met.Met.{Met}
+use Rattle.cube_check.specs.Verdicts.{IsMet}
 use Rattle.fault_io.specs.Bytes.{Consumes, IsAtEnd}
 use Rattle.fault_io.specs.Faults.{Rose}
 use Rattle.fault_io.specs.Sources.{SourceView}
@@ -97,3 +99,14 @@ pub record IsInside (vs : List ℕ) (u : List ℤ) (saved : Saved) : Type 0 wher
 abbrev pub IsSavedOf : List ℕ → List ℤ → Option Saved → Type 0
 IsSavedOf vs u None = Unit {0}
 IsSavedOf vs u (Some saved) = IsInside vs u saved
+
+-- what a met text has besides: cubes over the shown variables, which have all given literals, each
+-- with hidden literals
+pub record AreMetOf (n : ℕ) (vs : List ℕ) (u : List ℤ) (met : List Met) : Type 0 where
+  pub lines : All (IsMet n vs) met
+  pub inside : All (λ m. within (Met.cube m) u ≡ true) met
+
+-- where the text is a met text
+abbrev pub IsMetOf : ℕ → List ℕ → List ℤ → Option (List Met) → Type 0
+IsMetOf n vs u None = Unit {0}
+IsMetOf n vs u (Some met) = AreMetOf n vs u met

@@ -10,17 +10,18 @@ use Rattle.dimacs_front.specs.declared.refused.TextRefused.TheVariants.{BadHeade
 use Rattle.dimacs_front.specs.declared.line_place.LinePlace.{LinePlace}
 use Rattle.dimacs_front.specs.declared.header_place.HeaderPlace.{HeaderPlace}
 use Rattle.dimacs_front.specs.declared.header_place.HeaderPlace.TheVariants.{End}
-use Rattle.dimacs_front.specs.declared.saved_lines.SavedList.{SavedList}
+use Rattle.dimacs_front.specs.declared.saved_place.OpenList.{OpenList}
+use Rattle.dimacs_front.specs.declared.saved_place.OpenList.TheVariants.{Line, Shown, Hidden}
 use Rattle.dimacs_front.specs.declared.saved_place.SavedPlace.{SavedPlace}
 use Rattle.dimacs_front.specs.declared.saved_place.SavedPlace.TheVariants as saved
-use Rattle.dimacs_front.specs.declared.saved_place.SavedPlace.TheVariants.{First, Listed, Complete}
+use Rattle.dimacs_front.specs.declared.saved_place.SavedPlace.TheVariants.{First, MetFirst, Listed, Complete}
 use Rattle.dimacs_front.specs.declared.line_place.LinePlace.TheVariants.{Beginning, Header, Numbers, Comment, Show, ShowEnd, Under, UnderEnd, Saved, Over, Refused}
 use Rattle.dimacs_front.specs.declared.show_lines.Named.{Named}
 use Rattle.dimacs_front.specs.declared.under_lines.Given.{Given}
 use Rattle.dimacs_front.specs.Limits.{most_variables, most_clauses, most_literals}
 use Rattle.dimacs_front.specs.HeaderLines.{natural}
 use Rattle.sat_terms.specs.Cubes.{last_variable}
-use Rattle.dimacs_front.specs.SavedTexts.{SavedSaid, nothing_saved, with_line}
+use Rattle.dimacs_front.specs.SavedTexts.{SavedSaid, nothing_saved, with_line, with_met}
 use Rattle.dimacs_front.specs.MachineHeader.{header_after}
 use Rattle.dimacs_front.specs.MachineComment.{comment_begun, comment_after}
 use Rattle.dimacs_front.specs.MachinePlaces.{comment_byte, header_byte, percent, above_begun, in_comment, place_closed}
@@ -57,7 +58,8 @@ name_once ms m = cond (is_named ms m.variable) ms (ms ++ m ∷ [])
 
 -- the place in the line, whether there was a header, the formula below it, whether a show line was
 -- ended, the variables of all show lines, each with the first line that names it, the literals of
--- the under lines, the lines of a saved text's own, and the literals of the open one of these
+-- the under lines, the lines of a saved or a met text's own, the literals of their open list, and
+-- the cube of the open met line
 pub record StateView : Type 0 where
   pub place : LinePlace
   pub started : Bool
@@ -67,6 +69,7 @@ pub record StateView : Type 0 where
   pub under : List Given
   pub saved : SavedSaid
   pub lits : List ℤ
+  pub first : List ℤ
 
 abbrev pub nothing_said_yet : StateView
 nothing_said_yet = record {
@@ -78,6 +81,7 @@ nothing_said_yet = record {
   under = [];
   saved = nothing_saved;
   lits = [];
+  first = [];
 }
 
 -- the state at another place
@@ -136,18 +140,26 @@ under_eaten n s (Some l) =
     (at_place s UnderEnd)
     (cond (nat_le (nat_abs l) most_variables) (literal_given n s l) (refuse s (UnderBad n)))
 
--- a token of a cube line or an open line: literals whose variables rise, and a 0 that ends them
+-- a token of a list: literals whose variables rise, and a 0 that ends them
 abbrev pub literal_listed : StateView → ℤ → StateView
 literal_listed s l = record s { lits = s.lits ++ l ∷ [] }
 
-abbrev pub list_ended : SavedList → ℕ → StateView → StateView
-list_ended list n s = record s {
+abbrev pub list_ended : OpenList → ℕ → StateView → StateView
+list_ended (Line list) n s = record s {
   place = Saved Complete;
   saved = with_line list s.saved (record { line = n; cube = s.lits });
   lits = [];
 }
+list_ended Shown n s = record s { place = Saved (Listed Hidden); lits = []; first = s.lits }
+list_ended Hidden n s = record s {
+  place = Saved Complete;
+  saved =
+      with_met s.saved (record { line = n; met = record { cube = s.first; hidden = s.lits } });
+  lits = [];
+  first = [];
+}
 
-abbrev pub listed_eaten : SavedList → ℕ → StateView → Option ℤ → StateView
+abbrev pub listed_eaten : OpenList → ℕ → StateView → Option ℤ → StateView
 listed_eaten list n s None = refuse s (SavedBad n)
 listed_eaten list n s (Some l) =
     cond (nat_abs l == 0)
@@ -166,8 +178,17 @@ version_eaten n s t =
     (text_named s)
     (refuse s (SavedBad n))
 
+-- and of a met text
+abbrev pub met_named : StateView → StateView
+met_named s = record s { place = Saved Complete; saved = record s.saved { met = true } }
+
+abbrev pub met_version_eaten : ℕ → StateView → SeenView → StateView
+met_version_eaten n s t =
+    cond (bytes_eq t.head (codes "1")) (met_named s) (refuse s (SavedBad n))
+
 abbrev pub saved_eaten : SavedPlace → ℕ → StateView → SeenView → StateView
 saved_eaten First n s t = version_eaten n s t
+saved_eaten MetFirst n s t = met_version_eaten n s t
 saved_eaten (Listed list) n s t = listed_eaten list n s (value_of t.number)
 saved_eaten Complete n s t = refuse s (SavedBad n)
 saved_eaten saved.End n s t = refuse s (SavedBad n)
@@ -221,7 +242,7 @@ abbrev pub header_ended : HeaderPlace → ℕ → StateView → StateView
 header_ended (End v c) n s = formula_begun n s v c
 header_ended h n s = refuse s (BadHeader n)
 
--- the end line of a saved text ends
+-- the end line of a saved or a met text ends
 abbrev pub text_ended : StateView → StateView
 text_ended s = record s { place = Beginning; saved = record s.saved { ended = true } }
 

@@ -10,7 +10,7 @@ use Rattle.dimacs_front.specs.declared.show_lines.Named.{Named}
 use Rattle.dimacs_front.specs.declared.under_lines.Given.{Given}
 use Rattle.dimacs_front.specs.declared.input.Input.{Input}
 use Rattle.dimacs_front.specs.SavedTexts.{SavedSaid}
-use Rattle.dimacs_front.specs.TextEnds.{first_misplaced, under_of, lowest_outside, input_of}
+use Rattle.dimacs_front.specs.TextEnds.{first_misplaced, under_of, lowest_outside, first_unmet, input_of}
 use Rattle.dimacs_front.specs.Limits.{most_shown}
 use Rattle.dimacs_front.specs.Machine.{WrittenView, StateView, is_named}
 
@@ -27,7 +27,7 @@ unfoldable pub end_refusal : ℕ → StateView → Option TextRefused
 end_refusal n s =
     cond s.started
     (cond (is_nil s.formula.open_clause)
-    (cond (not s.saved.named || s.saved.ended)
+    (cond (not (s.saved.named || s.saved.met) || s.saved.ended)
     (cond (length s.formula.clauses == s.formula.said)
     (range_refusal (first_name_above s.formula.variables s.named))
     (Some (ClauseCount n s.formula.said (length s.formula.clauses))))
@@ -46,11 +46,17 @@ names_shown given named v = filter (or_named (not given) named) (range_with_len 
 abbrev pub few : List ℕ → Option (List ℕ)
 few vs = cond (nat_le (length vs) most_shown) (Some vs) None
 
--- and no given literal is misplaced, and no line of a saved text is outside
+-- and no given literal is misplaced, and no line of a saved or a met text is outside
+abbrev pub with_met_lines : WrittenView → List ℕ → List ℤ → SavedSaid → Option ℕ →
+    Result Input TextRefused
+with_met_lines w vs u k (Some line) = Err (SavedBad line)
+with_met_lines w vs u k None = Ok (input_of w.variables w.clauses vs u k)
+
 abbrev pub with_saved_lines : WrittenView → List ℕ → List ℤ → SavedSaid → Option ℕ →
     Result Input TextRefused
 with_saved_lines w vs u k (Some line) = Err (SavedBad line)
-with_saved_lines w vs u k None = Ok (input_of w.variables w.clauses vs u k)
+with_saved_lines w vs u k None =
+    with_met_lines w vs u k (first_unmet w.variables vs u k.mets)
 
 abbrev pub with_under : WrittenView → List Given → SavedSaid → List ℕ → Option ℕ →
     Result Input TextRefused

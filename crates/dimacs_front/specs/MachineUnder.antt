@@ -22,6 +22,6 @@ pub record IsUnder (vs : List ℕ) (gs : List Given) (c : List ℤ) : Type 0 whe
   pub placed : first_misplaced vs [] gs ≡ None
   pub same : c ≡ under_of gs vs
 
-abbrev pub Judges : List ℕ → List Given → Result (List ℤ) ℕ → Type 0
-Judges vs gs (Ok c) = IsUnder vs gs c
-Judges vs gs (Err line) = first_misplaced vs [] gs ≡ Some line
+abbrev pub JudgesGiven : List ℕ → List Given → Result (List ℤ) ℕ → Type 0
+JudgesGiven vs gs (Ok c) = IsUnder vs gs c
+JudgesGiven vs gs (Err line) = first_misplaced vs [] gs ≡ Some line

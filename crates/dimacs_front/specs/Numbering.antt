@@ -1,7 +1,7 @@
 -- The numbers, the names and the lines of refusals.
 use Rattle.std.specs.Prelude.{ℕ, List, codes}
 use Rattle.dimacs_front.specs.declared.refused.TextRefused.{TextRefused}
-use Rattle.dimacs_front.specs.declared.refused.TextRefused.TheVariants.{BadStart, BadHeader, HeaderTwice, NoHeader, BadNumber, VariableTooLarge, Unfinished, ClauseCount, ShowBad, ShowUnended, TooManyVariables, TooManyClauses, TooManyLiterals, TooManyShown, TextTooLong, SavedBad, SavedUnended, NotBuilt, UnderBad, UnderUnended}
+use Rattle.dimacs_front.specs.declared.refused.TextRefused.TheVariants.{BadStart, BadHeader, HeaderTwice, NoHeader, BadNumber, VariableTooLarge, Unfinished, ClauseCount, ShowBad, ShowUnended, TooManyVariables, TooManyClauses, TooManyLiterals, TooManyShown, TextTooLong, SavedBad, SavedUnended, NoMetText, UnderBad, UnderUnended}
 
 -- the number that notes to the user give
 abbrev pub number_of : TextRefused → ℕ
@@ -22,7 +22,7 @@ number_of (TooManyShown line) = 14
 number_of (TextTooLong line) = 15
 number_of (SavedBad line) = 16
 number_of (SavedUnended line) = 17
-number_of (NotBuilt line) = 20
+number_of (NoMetText line) = 19
 number_of (UnderBad line) = 21
 number_of (UnderUnended line) = 22
 
@@ -45,7 +45,7 @@ name_of (TooManyShown line) = codes "TooManyShown"
 name_of (TextTooLong line) = codes "TextTooLong"
 name_of (SavedBad line) = codes "SavedBad"
 name_of (SavedUnended line) = codes "SavedUnended"
-name_of (NotBuilt line) = codes "NotBuilt"
+name_of (NoMetText line) = codes "NoMetText"
 name_of (UnderBad line) = codes "UnderBad"
 name_of (UnderUnended line) = codes "UnderUnended"
 
@@ -68,6 +68,6 @@ line_of (TooManyShown line) = line
 line_of (TextTooLong line) = line
 line_of (SavedBad line) = line
 line_of (SavedUnended line) = line
-line_of (NotBuilt line) = line
+line_of (NoMetText line) = line
 line_of (UnderBad line) = line
 line_of (UnderUnended line) = line

@@ -8,13 +8,13 @@ use Rattle.dimacs_front.specs.declared.under_lines.Given.{Given}
 use Rattle.dimacs_front.specs.declared.saved_lines.SavedList.{SavedList}
 use Rattle.dimacs_front.specs.declared.saved_lines.SavedList.TheVariants.{Cubes, Pending}
 use Rattle.dimacs_front.specs.declared.refused.TextRefused.{TextRefused}
-use Rattle.dimacs_front.specs.declared.refused.TextRefused.TheVariants.{BadStart, BadHeader, HeaderTwice, BadNumber, VariableTooLarge, TooManyVariables, TooManyClauses, TooManyLiterals, UnderBad, UnderUnended, SavedBad, NotBuilt}
+use Rattle.dimacs_front.specs.declared.refused.TextRefused.TheVariants.{BadStart, BadHeader, HeaderTwice, BadNumber, VariableTooLarge, TooManyVariables, TooManyClauses, TooManyLiterals, UnderBad, UnderUnended, SavedBad}
 use Rattle.dimacs_front.specs.Limits.{most_variables, most_clauses, most_literals}
 use Rattle.dimacs_front.specs.HeaderLines.{Below}
 use Rattle.dimacs_front.specs.NumberLines.{literals_of, number_says, numbers_say}
 use Rattle.dimacs_front.specs.ListLines.{ListLine, list_says, is_literal}
 use Rattle.dimacs_front.specs.LineWords.{words_of, own_words}
-use Rattle.dimacs_front.specs.SavedTexts.{SavedSaid, is_version}
+use Rattle.dimacs_front.specs.SavedTexts.{SavedSaid, is_version, is_met_version, rising_says, up_to_zero, behind_zero}
 use Rattle.dimacs_front.specs.TextLines.{Said, line_says}
 
 -- what is said above the header, and below it
@@ -151,9 +151,19 @@ said_saved o ms gs k ended = record {
   over = false;
 }
 
+-- and in a met text
+abbrev pub said_met : Option Below → List ListLine → List Given → SavedSaid → Bool → Said
+said_met o ms gs k ended = record {
+  below = o;
+  shows = ms;
+  given = gs;
+  saved = record k { met = true; ended = ended };
+  over = false;
+}
+
 -- In a saved text a cube line and an open line are refused with their lists, and where the
 -- variables do not rise; an end line where a token follows; and each of these behind the end line.
--- Its first line is refused where the version is none that is known. A met text is not read.
+-- Its first line is refused where the version is none that is known.
 pub record SavedLinesAreRefused : Type 0 where
   pub list : (n : ℕ) (o : Option Below) (ms : List ListLine) (gs : List Given) (k : SavedSaid)
       (list : SavedList) (ts : List (List ℕ)) →
@@ -176,5 +186,25 @@ pub record SavedLinesAreRefused : Type 0 where
       line_says n (said_saved o ms gs k true) (words_of (codes "end") ++ ts) ≡ Err (SavedBad n)
   pub version : (s : Said) (ts : List (List ℕ)) → s.over ≡ false → is_version ts ≡ false →
       line_says 1 s (own_words (codes "saved") ++ ts) ≡ Err (SavedBad 1)
-  pub met : (s : Said) (ts : List (List ℕ)) → s.over ≡ false →
-      line_says 1 s (own_words (codes "met") ++ ts) ≡ Err (NotBuilt 1)
+
+-- In a met text a met line is refused with the first of its lists, and else with the second; and
+-- each met line, and an end line, behind the end line. Its first line is refused where the version
+-- is not 1.
+pub record MetLinesAreRefused : Type 0 where
+  pub cube : (n : ℕ) (o : Option Below) (ms : List ListLine) (gs : List Given) (k : SavedSaid)
+      (ts : List (List ℕ)) (r : TextRefused) →
+      rising_says n (up_to_zero (map token_value ts)) ≡ Err r →
+      line_says n (said_met o ms gs k false) (words_of (codes "met") ++ ts) ≡ Err r
+  pub hidden : (n : ℕ) (o : Option Below) (ms : List ListLine) (gs : List Given) (k : SavedSaid)
+      (ts : List (List ℕ)) (ls : List ℤ) (r : TextRefused) →
+      rising_says n (up_to_zero (map token_value ts)) ≡ Ok ls →
+      rising_says n (behind_zero (map token_value ts)) ≡ Err r →
+      line_says n (said_met o ms gs k false) (words_of (codes "met") ++ ts) ≡ Err r
+  pub behind : (n : ℕ) (o : Option Below) (ms : List ListLine) (gs : List Given) (k : SavedSaid)
+      (ts : List (List ℕ)) →
+      line_says n (said_met o ms gs k true) (words_of (codes "met") ++ ts) ≡ Err (SavedBad n)
+  pub end_behind : (n : ℕ) (o : Option Below) (ms : List ListLine) (gs : List Given)
+      (k : SavedSaid) (ts : List (List ℕ)) →
+      line_says n (said_met o ms gs k true) (words_of (codes "end") ++ ts) ≡ Err (SavedBad n)
+  pub version : (s : Said) (ts : List (List ℕ)) → s.over ≡ false → is_met_version ts ≡ false →
+      line_says 1 s (own_words (codes "met") ++ ts) ≡ Err (SavedBad 1)

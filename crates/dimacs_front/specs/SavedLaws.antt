@@ -1,5 +1,5 @@
 -- A saved text is read back.
-use Rattle.std.specs.Prelude.{◌≡◌, ◌≤◌, List, ℤ, length, Some, Ok}
+use Rattle.std.specs.Prelude.{◌≡◌, ◌≤◌, List, ℤ, length, Some, None, Ok}
 use Rattle.sat_terms.specs.declared.subject.Subject.{Subject}
 use Rattle.checkpoint.specs.SavedText.{saved_text}
 use Rattle.dimacs_front.specs.declared.input.Input.{Input}
@@ -10,7 +10,7 @@ use Rattle.dimacs_front.specs.Answers.{IsWithinLimits, AreInside}
 -- a subject of which these cubes and prefixes are saved
 abbrev pub saved_input : Subject → List (List ℤ) → List (List ℤ) → Input
 saved_input s found pending =
-    record { subject = s; saved = Some (record { cubes = found; pending = pending }) }
+    record { subject = s; saved = Some (record { cubes = found; pending = pending }); met = None }
 
 -- The text that is saved of a subject within the limits, of cubes and of prefixes, over its shown
 -- variables and within its given literals, says just these, unless it is too long to be read.

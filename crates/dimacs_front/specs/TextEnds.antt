@@ -8,6 +8,8 @@ use Rattle.dimacs_front.specs.declared.refused.TextRefused.TheVariants.{NoHeader
 use Rattle.sat_terms.specs.Cubes.{is_among, has_literal, within}
 use Rattle.checkpoint.specs.declared.saved.Saved.{Saved}
 use Rattle.dimacs_front.specs.declared.under_lines.Given.{Given}
+use Rattle.cube_check.specs.declared.met.Met.{Met}
+use Rattle.dimacs_front.specs.declared.met_lines.MetLine.{MetLine}
 use Rattle.dimacs_front.specs.declared.saved_lines.SavedLine.{SavedLine}
 use Rattle.dimacs_front.specs.declared.input.Input.{Input}
 use Rattle.dimacs_front.specs.Limits.{most_shown}
@@ -71,18 +73,46 @@ lower_line (Some m) (Some n) = Some (cond (nat_le m n) m n)
 abbrev pub lowest_outside : List ℕ → List ℤ → SavedSaid → Option ℕ
 lowest_outside vs u k = lower_line (first_outside vs u k.cubes) (first_outside vs u k.pending)
 
+-- a met line shows a cube where its cube can be saved, and each of its hidden literals is of one of
+-- the variables 1 to v that is not shown
+abbrev pub is_hidden : ℕ → List ℕ → ℤ → Bool
+is_hidden v vs l = nat_le (nat_abs l) v && not (is_among vs (nat_abs l))
+
+abbrev pub is_met_line : ℕ → List ℕ → List ℤ → MetLine → Bool
+is_met_line v vs u m = is_saved_cube vs u m.met.cube && list_all (is_hidden v vs) m.met.hidden
+
+-- the number of the first line that does not
+abbrev pub first_unmet : ℕ → List ℕ → List ℤ → List MetLine → Option ℕ
+first_unmet v vs u [] = None
+first_unmet v vs u (m ∷ ms) =
+    cond (is_met_line v vs u m) (first_unmet v vs u ms) (Some m.line)
+
+-- what is met, where the text is a met text
+abbrev pub mets_of : List MetLine → List Met
+mets_of ms = map (λ m. MetLine.met m) ms
+
+abbrev pub met_if : Bool → List MetLine → Option (List Met)
+met_if named ms = cond named (Some (mets_of ms)) None
+
+abbrev pub met_of : SavedSaid → Option (List Met)
+met_of k = met_if k.met k.mets
+
 -- what is saved, where the text is a saved text
 abbrev pub cubes_of : List SavedLine → List (List ℤ)
 cubes_of ms = map (λ m. SavedLine.cube m) ms
 
+abbrev pub saved_if : Bool → List SavedLine → List SavedLine → Option Saved
+saved_if named cs ps =
+    cond named (Some (record { cubes = cubes_of cs; pending = cubes_of ps })) None
+
 abbrev pub saved_of : SavedSaid → Option Saved
-saved_of k =
-    cond k.named (Some (record { cubes = cubes_of k.cubes; pending = cubes_of k.pending })) None
+saved_of k = saved_if k.named k.cubes k.pending
 
 abbrev pub input_of : ℕ → List (List ℤ) → List ℕ → List ℤ → SavedSaid → Input
 input_of v cs vs u k = record {
   subject = record { formula = record { variables = v; clauses = cs }; shown = vs; under = u };
   saved = saved_of k;
+  met = met_of k;
 }
 
 abbrev pub shown_says : ℕ → Below → List Given → SavedSaid → List ℕ → Result Input TextRefused
@@ -90,14 +120,15 @@ shown_says n w gs k vs =
     needs (nat_le (length vs) most_shown) (TooManyShown n)
     (unless (first_misplaced vs [] gs) UnderBad
     (unless (lowest_outside vs (under_of gs vs) k) SavedBad
-    (Ok (input_of w.variables w.clauses vs (under_of gs vs) k))))
+    (unless (first_unmet w.variables vs (under_of gs vs) k.mets) SavedBad
+    (Ok (input_of w.variables w.clauses vs (under_of gs vs) k)))))
 
--- a saved text has its end line
+-- a saved text and a met text have their end line
 abbrev pub below_says : ℕ → Below → List ListLine → List Given → SavedSaid →
     Result Input TextRefused
 below_says n w ms gs k =
     needs (is_nil w.open_clause) (Unfinished n)
-    (needs (not k.named || k.ended) (SavedUnended n)
+    (needs (not (k.named || k.met) || k.ended) (SavedUnended n)
     (needs (length w.clauses == w.said) (ClauseCount n w.said (length w.clauses))
     (unless (first_above w.variables ms) ShowBad
     (shown_says n w gs k (shown_of w ms)))))

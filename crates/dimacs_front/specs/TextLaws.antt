@@ -3,6 +3,7 @@ use Rattle.std.specs.Prelude.{◌≡◌, ℕ, ◌+◌, ◌<◌, ◌≤◌, ℤ, 
 use Rattle.std.specs.List.{All, AllPairs}
 use Rattle.dimacs_tokens.specs.Numbers.{token_value}
 use Rattle.dimacs_tokens.specs.Seen.{list_begins}
+use Rattle.dimacs_front.specs.declared.met_lines.MetLine.{MetLine}
 use Rattle.dimacs_front.specs.declared.saved_lines.SavedLine.{SavedLine}
 use Rattle.dimacs_front.specs.declared.under_lines.Given.{Given}
 use Rattle.dimacs_front.specs.declared.refused.TextRefused.{TextRefused}
@@ -111,7 +112,8 @@ ShowLinesRise =
     (ls : List (List ℕ)) (j : Lines) → lines_say ls ≡ Ok j →
     AllPairs (λ k m. ListLine.line k < ListLine.line m) j.said.shows
 
--- the cube lines and the open lines of a saved text are kept so too
+-- the cube lines and the open lines of a saved text are kept so too, and the met lines of a met
+-- text
 abbrev pub is_lower_line : SavedLine → SavedLine → Type 0
 is_lower_line k m = k.line < m.line
 
@@ -119,6 +121,7 @@ abbrev pub SavedLinesRise : Type 0
 SavedLinesRise =
     (ls : List (List ℕ)) (j : Lines) → lines_say ls ≡ Ok j →
     AllPairs is_lower_line j.said.saved.cubes × AllPairs is_lower_line j.said.saved.pending
+    × AllPairs (λ k m. MetLine.line k < MetLine.line m) j.said.saved.mets
 
 -- ---- texts
 

@@ -1,20 +1,21 @@
 -- What any line of a text says, and the lines together. Here n is the line's number.
-use Rattle.std.specs.Prelude.{ℕ, ◌+◌, Bool, true, false, not, cond, ◌==◌, ◌&&◌, List, [], ◌∷◌, ◌++◌, map, drop, Option, Some, None, Result, Ok, codes}
+use Rattle.std.specs.Prelude.{ℕ, ◌+◌, Bool, true, false, not, cond, List, [], ◌∷◌, ◌++◌, map, drop, Option, Some, None, Result, Ok, codes}
 use Rattle.dimacs_tokens.specs.Cuts.{tokens}
 use Rattle.dimacs_tokens.specs.Numbers.{token_value}
 use Rattle.dimacs_tokens.specs.Seen.{list_begins}
 use Rattle.dimacs_front.specs.declared.refused.TextRefused.{TextRefused}
-use Rattle.dimacs_front.specs.declared.refused.TextRefused.TheVariants.{BadStart, HeaderTwice, NotBuilt}
+use Rattle.dimacs_front.specs.declared.refused.TextRefused.TheVariants.{BadStart, HeaderTwice}
 use Rattle.dimacs_front.specs.declared.under_lines.Given.{Given}
 use Rattle.dimacs_front.specs.Steps.{and_then, needs, steps}
 use Rattle.dimacs_front.specs.HeaderLines.{Below, header_says}
 use Rattle.dimacs_front.specs.NumberLines.{numbers_say}
-use Rattle.dimacs_front.specs.LineWords.{begins_by, words_of, own_words}
+use Rattle.dimacs_front.specs.LineWords.{begins_by, words_of}
 use Rattle.dimacs_front.specs.ListLines.{ListLine, show_says, under_says}
 use Rattle.dimacs_front.specs.SavedTexts.{SavedSaid, nothing_saved, saved_says}
 
 -- what the lines so far say: the header and the numbers below it, the show lines in their order,
--- the literals of the under lines, the lines of a saved text's own, and whether the formula is over
+-- the literals of the under lines, the lines of a saved or a met text's own, and whether the
+-- formula is over
 pub record Said : Type 0 where
   pub below : Option Below
   pub shows : List ListLine
@@ -43,8 +44,7 @@ comment_says n s ts =
     (and_then (λ m. Ok (with_show s m)) (show_says n (map token_value (drop 3 ts))))
     (cond (begins_by (words_of (codes "under")) ts)
     (and_then (λ m. Ok (with_given s m)) (under_says n (map token_value (drop 3 ts))))
-    (needs (not ((n == 1) && begins_by (own_words (codes "met")) ts)) (NotBuilt n)
-    (and_then (λ k. Ok (with_saved s k)) (saved_says n s.saved ts))))
+    (and_then (λ k. Ok (with_saved s k)) (saved_says n s.saved ts)))
 
 -- a line whose first token is t, and no comment: up to the header, and below it. The bytes 112 and
 -- 37 are `p` and `%`

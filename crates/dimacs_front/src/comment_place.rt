@@ -23,6 +23,8 @@ pub enum CommentPlace {
     Open,
     /// Behind the words of an end line.
     End,
+    /// Behind the words of a met line.
+    MetLine,
     /// Behind the words of the first line of a saved text.
     Saved,
     /// Behind the words of the first line of a met text.
@@ -55,6 +57,7 @@ impl CommentPlace {
             CommentPlace::Parted if token.is_word(b"cube") => CommentPlace::Cube,
             CommentPlace::Parted if token.is_word(b"open") => CommentPlace::Open,
             CommentPlace::Parted if token.is_word(b"end") => CommentPlace::End,
+            CommentPlace::Parted if token.is_word(b"met") => CommentPlace::MetLine,
             CommentPlace::Named if token.is_word(b"met") => CommentPlace::Met,
             CommentPlace::Named if token.is_word(b"saved") => CommentPlace::Saved,
             _ => CommentPlace::Passed,

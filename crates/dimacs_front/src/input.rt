@@ -1,6 +1,7 @@
 //! What a text gives.
 use checkpoint::Saved;
-use sat_terms::Subject;
+use cube_check::Met;
+use sat_terms::{Items, Subject};
 
 /// The input that a text says.
 #[derive(Debug, Drop)]
@@ -9,4 +10,6 @@ pub struct Input {
     pub subject: Subject,
     /// Of a saved text, the cubes and the prefixes in the order of their lines.
     pub saved: Option<Saved>,
+    /// Of a met text, the cubes with their hidden literals, in the order of their lines.
+    pub met: Option<Items<Met>>,
 }

@@ -1,9 +1,10 @@
 //! The reader of DIMACS CNF text.
 //!
 //! `read_subject` takes comments, projection lines, a header, clauses that span or share lines, and
-//! a line that ends the formula, and texts that a stopped run has saved. It judges a text token by
-//! token while its bytes come, so a line of any length costs no memory, and gives the formula as it
-//! was written. It rests on the tokens of DIMACS text, on sources of bytes and on the terms.
+//! a line that ends the formula, texts that a stopped run has saved, and met texts, which tell of
+//! cubes why they are right. It judges a text token by token while its bytes come, so a line of any
+//! length costs no memory, and gives the formula as it was written. It rests on the tokens of
+//! DIMACS text, on sources of bytes and on the terms.
 #![tactic(auto)]
 
 mod comment_place;
@@ -17,6 +18,7 @@ mod limits;
 mod line_place;
 #[cfg(test)]
 mod made_text;
+mod met_lines;
 mod read;
 pub mod refusal_laws;
 mod refused;

@@ -4,7 +4,7 @@
 pub const MOST_BYTES: usize = 1_073_741_824;
 
 /// The most variables that a header may name, and the largest variable that a show line, an under
-/// line, a cube line or an open line may hold.
+/// line, a cube line, an open line or a met line may hold.
 pub const MOST_VARIABLES: u32 = 1_000_000;
 
 /// The most clauses that a header may name, and that a text may have.

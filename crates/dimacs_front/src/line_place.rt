@@ -7,7 +7,7 @@ use crate::TextRefused;
 use crate::comment_place::CommentPlace;
 use crate::header_place::HeaderPlace;
 use crate::saved_lines::{SavedLines, SavedList};
-use crate::saved_place::SavedPlace;
+use crate::saved_place::{OpenList, SavedPlace};
 use dimacs_tokens::Seen;
 
 /// The place in a line, with what its tokens said so far.
@@ -29,7 +29,7 @@ pub enum LinePlace {
     Under,
     /// Behind the 0 of an under line.
     UnderEnd,
-    /// In a line that a saved text has of its own.
+    /// In a line that a saved or a met text has of its own.
     Saved(SavedPlace),
     /// In or below the line that ends the formula.
     Over,
@@ -49,7 +49,7 @@ impl LinePlace {
         }
     }
 
-    /// The place in a comment with these words, behind these lines of a saved text's own.
+    /// The place in a comment with these words, behind these lines of the text's own.
     pub fn in_comment(saved: &SavedLines, line: u64, place: CommentPlace) -> LinePlace
         ensures { result ≡ in_comment saved.now line place }
     {
@@ -57,24 +57,32 @@ impl LinePlace {
             CommentPlace::Show => LinePlace::Show,
             CommentPlace::Under => LinePlace::Under,
             CommentPlace::Cube => {
-                LinePlace::of_saved(saved, line, SavedPlace::Listed(SavedList::Cubes))
+                let place = SavedPlace::Listed(OpenList::Line(SavedList::Cubes));
+                LinePlace::own(saved.is_named(), saved, line, place)
             }
             CommentPlace::Open => {
-                LinePlace::of_saved(saved, line, SavedPlace::Listed(SavedList::Pending))
+                let place = SavedPlace::Listed(OpenList::Line(SavedList::Pending));
+                LinePlace::own(saved.is_named(), saved, line, place)
             }
-            CommentPlace::End => LinePlace::of_saved(saved, line, SavedPlace::End),
+            CommentPlace::End => {
+                LinePlace::own(saved.has_end_line(), saved, line, SavedPlace::End)
+            }
+            CommentPlace::MetLine => {
+                let place = SavedPlace::Listed(OpenList::Shown);
+                LinePlace::own(saved.is_met(), saved, line, place)
+            }
             CommentPlace::Saved => LinePlace::Saved(SavedPlace::First),
-            CommentPlace::Met => LinePlace::Refused(TextRefused::NotBuilt { line }),
+            CommentPlace::Met => LinePlace::Saved(SavedPlace::MetFirst),
             words => LinePlace::Comment(words),
         }
     }
 
-    /// The place in a line that a saved text has of its own: other texts pass over it, and none
-    /// stands behind the end line.
-    fn of_saved(saved: &SavedLines, line: u64, place: SavedPlace) -> LinePlace
-        ensures { result ≡ own_place saved.now line place }
+    /// The place in a line that some texts have of their own, as this one has or not: others pass
+    /// over it, and none stands behind the end line.
+    fn own(has: bool, saved: &SavedLines, line: u64, place: SavedPlace) -> LinePlace
+        ensures { result ≡ own_place has saved.now line place }
     {
-        if !saved.is_named() {
+        if !has {
             LinePlace::Comment(CommentPlace::Passed)
         } else if saved.is_ended() {
             LinePlace::Refused(TextRefused::SavedBad { line })
@@ -83,14 +91,14 @@ impl LinePlace {
         }
     }
 
-    /// The place behind the end of the line, where it ends no header and no saved text.
+    /// The place behind the end of the line, where it ends no header and no saved or met text.
     pub fn closed(self, line: u64) -> LinePlace
         ensures { result ≡ place_closed self line }
     {
         match self {
             LinePlace::Show => LinePlace::Refused(TextRefused::ShowUnended { line }),
             LinePlace::Under => LinePlace::Refused(TextRefused::UnderUnended { line }),
-            LinePlace::Saved(SavedPlace::First | SavedPlace::Listed(_)) => {
+            LinePlace::Saved(SavedPlace::First | SavedPlace::MetFirst | SavedPlace::Listed(_)) => {
                 LinePlace::Refused(TextRefused::SavedBad { line })
             }
             LinePlace::Over => LinePlace::Over,

@@ -1,6 +1,7 @@
 //! The loop over the source.
 ghost use Rattle.std.specs.Prelude.{◌≡◌, ◌-◌, ◌<◌, ◌≤◌, length, vec_len, IfOk};
-ghost use Rattle.dimacs_front.specs.Answers.{ReadsText, TellsText, IsWithinLimits, IsSavedOf};
+ghost use Rattle.dimacs_front.specs.Answers.{ReadsText, TellsText, IsWithinLimits};
+ghost use Rattle.dimacs_front.specs.Answers.{IsSavedOf, IsMetOf};
 ghost use Rattle.dimacs_front.specs.Pieces.{FeedsOn};
 
 use crate::text_reader::TextReader;
@@ -14,8 +15,8 @@ const PIECE_SIZE: usize = 65_536;
 /// Reads a text from the source, up to its end, or up to the piece in which a line is refused or
 /// the text grows too long. Takes memory for the formula, for the variables of the show lines (each
 /// once, and a byte for each number up to the largest), for the literals of the under lines, for
-/// the cubes of a saved text (each once), and for one buffer, whatever the length of the lines and
-/// of the text.
+/// the cubes of a saved or a met text (each once), and for one buffer, whatever the length of the
+/// lines and of the text.
 pub fn read_subject<S: Source>(alloc: Global, source: &mut S) -> Result<Input, ReadRefused>
     ensures reads { ReadsText (S.shows source.old) (S.shows source.new) result }
 
@@ -28,6 +29,11 @@ pub fn read_subject<S: Source>(alloc: Global, source: &mut S) -> Result<Input, R
     // prefixes are few enough to be numbered.
     ensures saved { IfOk result (λ input.
         IsSavedOf input.subject.shown input.subject.under input.saved) }
+
+    // What a met text has besides is a list of cubes over the same variables, within the given
+    // literals, each with literals of hidden variables.
+    ensures met { IfOk result (λ input. IsMetOf input.subject.formula.variables
+        input.subject.shown input.subject.under input.met) }
 {
     let mut buffer = zero_bytes(alloc, PIECE_SIZE)?;
     read_pieces(alloc, source, &mut buffer)

@@ -60,17 +60,18 @@ pub enum TextRefused {
     /// An under line has no 0.
     #[error("line {line}: an under line has no 0")]
     UnderUnended { line: u64 },
-    /// In a saved text, the first line has no version that is known, a cube line or an open line
-    /// holds no cube, or one that is not over the shown variables within the given literals, the
-    /// end line has a further token, or one of these stands behind the end line.
-    #[error("line {line}: a line of a saved text is not what it has to be")]
+    /// In a saved or a met text, the first line has no version that is known, a line of its own
+    /// holds no cube, or one that is not over the shown variables within the given literals, or
+    /// hidden literals that are of no hidden variable, the end line has a further token, or one of
+    /// these stands behind the end line.
+    #[error("line {line}: a line of a saved or a met text is not what it has to be")]
     SavedBad { line: u64 },
-    /// A saved text has no end line.
-    #[error("line {line}: a saved text has no end line")]
+    /// A saved or a met text has no end line.
+    #[error("line {line}: a saved or a met text has no end line")]
     SavedUnended { line: u64 },
-    /// The first line names a met text, which this reader does not read.
-    #[error("line {line}: met texts are not read")]
-    NotBuilt { line: u64 },
+    /// The text is no met text, where one is asked for. No text is refused so by the reader.
+    #[error("line {line}: the text is no met text")]
+    NoMetText { line: u64 },
 }
 
 impl TextRefused {
@@ -96,7 +97,7 @@ impl TextRefused {
             TextRefused::TextTooLong { .. } => 15,
             TextRefused::SavedBad { .. } => 16,
             TextRefused::SavedUnended { .. } => 17,
-            TextRefused::NotBuilt { .. } => 20,
+            TextRefused::NoMetText { .. } => 19,
             TextRefused::UnderBad { .. } => 21,
             TextRefused::UnderUnended { .. } => 22,
         }
@@ -124,7 +125,7 @@ impl TextRefused {
             TextRefused::TextTooLong { .. } => "TextTooLong",
             TextRefused::SavedBad { .. } => "SavedBad",
             TextRefused::SavedUnended { .. } => "SavedUnended",
-            TextRefused::NotBuilt { .. } => "NotBuilt",
+            TextRefused::NoMetText { .. } => "NoMetText",
             TextRefused::UnderBad { .. } => "UnderBad",
             TextRefused::UnderUnended { .. } => "UnderUnended",
         }
@@ -152,7 +153,7 @@ impl TextRefused {
             TextRefused::TextTooLong { line } => *line,
             TextRefused::SavedBad { line } => *line,
             TextRefused::SavedUnended { line } => *line,
-            TextRefused::NotBuilt { line } => *line,
+            TextRefused::NoMetText { line } => *line,
             TextRefused::UnderBad { line } => *line,
             TextRefused::UnderUnended { line } => *line,
         }

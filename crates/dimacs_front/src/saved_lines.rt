@@ -1,15 +1,18 @@
-//! The lines that a saved text has of its own.
-ghost use Rattle.std.specs.Prelude.{◌≡◌, ◌<◌, true, [], ◌++◌, ◌∷◌, nat_abs, IfOk, OnOk};
+//! The lines that a saved text or a met text has of its own.
+ghost use Rattle.std.specs.Prelude.{◌≡◌, ◌<◌, true, ◌||◌, [], ◌++◌, ◌∷◌, nat_abs, IfOk, OnOk};
 ghost use Rattle.std.specs.List.{list_all};
 ghost use Rattle.sat_terms.specs.Literals.{IsLiteral};
 ghost use Rattle.sat_terms.specs.Cubes.{is_among, last_variable, rises_above};
 ghost use Rattle.sat_terms.specs.Subjects.{IsVariableList};
-ghost use Rattle.dimacs_front.specs.SavedTexts.{nothing_saved, with_line};
+ghost use Rattle.dimacs_front.specs.SavedTexts.{nothing_saved, with_line, with_met};
 ghost use Rattle.dimacs_front.specs.TextEnds.{is_saved_cube, first_outside, lower_line};
 ghost use Rattle.dimacs_front.specs.TextEnds.{lowest_outside};
-ghost use Rattle.dimacs_front.specs.TextEnds.{cubes_of, saved_of};
+ghost use Rattle.dimacs_front.specs.TextEnds.{cubes_of, saved_if, saved_of};
+ghost use Rattle.dimacs_front.specs.TextEnds.{first_unmet, met_if, met_of};
 
+use crate::met_lines::{MetLine, first_unmet, mets_of};
 use checkpoint::Saved;
+use cube_check::Met;
 use sat_terms::{Cube, Items, is_shown, within};
 use std::alloc::{AllocError, Global};
 use std::marker::Model;
@@ -31,12 +34,15 @@ pub struct SavedLine {
 }
 
 /// What the lines say so far: whether the first line names a saved text, the cube lines and the
-/// open lines, in order, and whether the end line stood.
+/// open lines, in order, whether it names a met text, the met lines, and whether the end line
+/// stood.
 #[derive(Drop)]
 pub struct SavedLines {
     named: bool,
     cubes: Vec<SavedLine>,
     pending: Vec<SavedLine>,
+    met: bool,
+    mets: Vec<MetLine>,
     ended: bool,
 }
 
@@ -49,6 +55,8 @@ impl Model for SavedLines {
       named = s.named;
       cubes = s.cubes.items;
       pending = s.pending.items;
+      met = s.met;
+      mets = s.mets.items;
       ended = s.ended;
     } };
 }
@@ -62,6 +70,8 @@ impl SavedLines {
             named: false,
             cubes: Vec::new(alloc),
             pending: Vec::new(alloc),
+            met: false,
+            mets: Vec::new(alloc),
             ended: false,
         }
     }
@@ -71,6 +81,20 @@ impl SavedLines {
         ensures { result ≡ self.now.named }
     {
         self.named
+    }
+
+    /// Whether the first line names a met text.
+    pub fn is_met(&self) -> bool
+        ensures { result ≡ self.now.met }
+    {
+        self.met
+    }
+
+    /// Whether the text has an end line of its own, as a saved text and a met text do.
+    pub fn has_end_line(&self) -> bool
+        ensures { result ≡ (self.now.named || self.now.met) }
+    {
+        self.named || self.met
     }
 
     /// Whether the end line stood.
@@ -85,6 +109,13 @@ impl SavedLines {
         ensures { self.new ≡ record self.old { named = true } }
     {
         self.named = true;
+    }
+
+    /// The first line names a met text.
+    pub fn name_met(&mut self)
+        ensures { self.new ≡ record self.old { met = true } }
+    {
+        self.met = true;
     }
 
     /// The end line stood.
@@ -106,6 +137,15 @@ impl SavedLines {
         Ok(())
     }
 
+    /// Keeps a met line.
+    pub fn add_met(&mut self, line: u64, met: Met) -> Result<(), AllocError>
+        ensures { OnOk result
+            (self.new ≡ with_met self.old (record { line = line; met = met })) }
+    {
+        self.mets.push(MetLine { line, met })?;
+        Ok(())
+    }
+
     /// The lowest line whose cube has a variable that is none of these, or lacks a given literal.
     /// Takes one search of `shown` by halves for each literal, and one walk over `under` a line.
     pub fn lowest_outside(&self, shown: &[u32], under: &[i32]) -> Option<u64>
@@ -118,17 +158,58 @@ impl SavedLines {
         lower_line(cubes, pending)
     }
 
-    /// What is saved, where the text is a saved text.
-    pub fn into_saved(self, alloc: Global) -> Result<Option<Saved>, AllocError>
-        ensures { IfOk result (λ saved. saved ≡ saved_of self) }
+    /// The first met line that does not show a cube. Takes the same time.
+    pub fn first_unmet(&self, variables: u32, shown: &[u32], under: &[i32]) -> Option<u64>
+        requires shown { IsVariableList shown.now }
+        requires under { rises_above 0 under.now ≡ true }
+        ensures { result ≡ first_unmet variables shown.now under.now self.now.mets }
     {
-        if !self.named {
-            return Ok(None);
-        }
-        let cubes = cubes_of(alloc, self.cubes)?;
-        let pending = cubes_of(alloc, self.pending)?;
-        Ok(Some(Saved { cubes, pending }))
+        first_unmet(&self.mets, variables, shown, under)
     }
+
+    /// What is saved, where the text is a saved text, and what is met, where it is a met text.
+    pub fn into_own(self, alloc: Global) -> Result<Own, AllocError>
+        ensures saved { IfOk result (λ own. own.saved ≡ saved_of self) }
+        ensures met { IfOk result (λ own. own.met ≡ met_of self) }
+    {
+        let saved = saved_of(alloc, self.named, self.cubes, self.pending)?;
+        let met = met_of(alloc, self.met, self.mets)?;
+        Ok(Own { saved, met })
+    }
+}
+
+/// What a saved text has besides its subject, and what a met text has.
+#[derive(Drop)]
+pub struct Own {
+    pub saved: Option<Saved>,
+    pub met: Option<Items<Met>>,
+}
+
+/// The cubes and the prefixes of these lines, where the text is a saved text.
+fn saved_of(
+    alloc: Global,
+    named: bool,
+    cubes: Vec<SavedLine>,
+    pending: Vec<SavedLine>,
+) -> Result<Option<Saved>, AllocError>
+    ensures { IfOk result (λ saved. saved ≡ saved_if named cubes.items pending.items) }
+{
+    if !named {
+        return Ok(None);
+    }
+    let cubes = cubes_of(alloc, cubes)?;
+    let pending = cubes_of(alloc, pending)?;
+    Ok(Some(Saved { cubes, pending }))
+}
+
+/// What these lines hold, where the text is a met text.
+fn met_of(alloc: Global, met: bool, mets: Vec<MetLine>) -> Result<Option<Items<Met>>, AllocError>
+    ensures { IfOk result (λ held. held ≡ met_if met mets.items) }
+{
+    if !met {
+        return Ok(None);
+    }
+    Ok(Some(mets_of(alloc, mets)?))
 }
 
 /// The first of the lines whose cube cannot be saved.
@@ -146,7 +227,7 @@ fn first_outside(lines: &[SavedLine], shown: &[u32], under: &[i32]) -> Option<u6
 }
 
 /// Whether the cube can be saved: all its variables are shown, and it has all given literals.
-fn is_saved_cube(cube: &Cube, shown: &[u32], under: &[i32]) -> bool
+pub fn is_saved_cube(cube: &Cube, shown: &[u32], under: &[i32]) -> bool
     requires shown { IsVariableList shown.now }
     requires under { rises_above 0 under.now ≡ true }
     ensures { result ≡ is_saved_cube shown.now under.now cube.now }

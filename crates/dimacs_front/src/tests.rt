@@ -199,9 +199,54 @@ c allsat saved 2|c p cube 3 0|c p open 2 0|p cnf 3 0|c p show 1 0|c p end| => Sa
 c allsat saved 2|c p cube 1 0|c p open -1 0|p cnf 3 0|c p under -1 0|c p end| => SavedBad 2
 c allsat saved 2|c p cube -1 0|c p open 3 0|p cnf 3 0|c p under -1 0|c p end| => SavedBad 3
 c allsat saved 2|c p cube 2 0|p cnf 1 0|c p under 2 0|c p end| => UnderBad 4
-c allsat saved 2|c p cube 2 0|p cnf 8193 0|c p show 8194 0|c p end| => ShowBad 4
-c allsat met 1|p cnf 1 0|c p met 0 0|c p end| => NotBuilt 1
- c  allsat met|x| => NotBuilt 1";
+c allsat saved 2|c p cube 2 0|p cnf 8193 0|c p show 8194 0|c p end| => ShowBad 4";
+    assert_eq!(rt; other_row(rt.alloc(), rows)?, None);
+    Ok(())
+}
+
+#[test]
+fn a_met_text_is_refused_by_its_lowest_wrong_line(rt: HostRuntime) -> Result<(), Fail> {
+    let rows = "\
+c allsat met 2|x| => SavedBad 1
+ c  allsat met|x| => SavedBad 1
+c allsat met 01| => SavedBad 1
+c allsat met 1 1| => SavedBad 1
+c allsat met 1|p cnf 2 1|c p show 1 0|2 -2 0|c p met 0 1 0|c p end| => SavedBad 5
+c allsat met 1|p cnf 1 0|c p met 1 0|c p end| => SavedBad 3
+c allsat met 1|p cnf 1 0|c p met 1|c p end| => SavedBad 3
+c allsat met 1|p cnf 1 0|c p met| => SavedBad 3
+c allsat met 1|p cnf 1 0|c p met 0 0 0| => SavedBad 3
+c allsat met 1|p cnf 1 0|c p met 0 0 x| => SavedBad 3
+c allsat met 1|p cnf 1 0|c p met x 0 0| => SavedBad 3
+c allsat met 1|p cnf 3 0|c p met 2 1 0 0|c p end| => SavedBad 3
+c allsat met 1|p cnf 3 0|c p met 0 -3 3 0|c p end| => SavedBad 3
+c allsat met 1|c p met 1000001 0 0|p cnf 3 0|c p end| => SavedBad 2
+c allsat met 1|c p met 0 4 0|p cnf 3 0|c p show 1 0|c p end| => SavedBad 2
+c allsat met 1|c p met 0 2 0|p cnf 3 0|c p met 2 0 3 0|c p show 1 0|c p end| => SavedBad 4
+c allsat met 1|c p met -1 0 0|c p met 1 0 0|p cnf 1 0|c p under -1 0|c p end| => SavedBad 3
+c allsat met 1|p cnf 1 0|c p end|c p met 0 0| => SavedBad 4
+c allsat met 1|p cnf 1 0|c p end|c p end| => SavedBad 4
+c allsat met 1|p cnf 1 0|c p end x| => SavedBad 3
+c allsat met 1|p cnf 1 0|c p met 0 0| => SavedUnended 3
+c allsat met 1|p cnf 1 0|%|c p end| => SavedUnended 4
+c allsat met 1|c p end|p cnf 1 2|1 0 => ClauseCount 4 said 2 found 1";
+    assert_eq!(rt; other_row(rt.alloc(), rows)?, None);
+    Ok(())
+}
+
+#[test]
+fn a_met_text_gives_its_cubes_with_their_hidden_literals(rt: HostRuntime) -> Result<(), Fail> {
+    let rows = "\
+c allsat met 1|p cnf 0 0|c p end| => 0 met
+c allsat met 1|p cnf 2 2|c p show 1 0|1 2 0|-1 -2 0|c p met -1 0 2 0|c p met 1 0 -2 0|c p end| \
+=> 2 1 clauses 1 2 0 -1 -2 0 met -1 0 2 0 1 0 -2 0
+\tc allsat  met 1|c p met 1 0 -02 3 0|c p end 3|p cnf 3 0 => SavedBad 3
+c allsat met 1|c p met 1 0 -02 3 0|p cnf 3 0|c p end|c p show 1 0 => 3 1 met 1 0 -2 3 0
+c allsat met 1|p cnf 2 0|c p cube 3 x|c p open|c p met 0 0|c p met -2 0 0|c p end \
+=> 2 1 2 met 0 0 -2 0 0
+c allsat saved 2|p cnf 1 0|c p met x|c p end| => 1 1 saved
+p cnf 1 0|c p met x|c p end 1| => 1 1
+p cnf 1 0|c allsat met 1| => 1 1";
     assert_eq!(rt; other_row(rt.alloc(), rows)?, None);
     Ok(())
 }
@@ -491,7 +536,7 @@ fn a_refusal_keeps_its_number_and_line(rt: HostRuntime) {
         (TextRefused::TextTooLong { line }, 15),
         (TextRefused::SavedBad { line }, 16),
         (TextRefused::SavedUnended { line }, 17),
-        (TextRefused::NotBuilt { line }, 20),
+        (TextRefused::NoMetText { line }, 19),
         (TextRefused::UnderBad { line }, 21),
         (TextRefused::UnderUnended { line }, 22),
     ];

@@ -1,6 +1,7 @@
 //! For tests: tables of texts and their answers, one row a line.
 use crate::tests::read;
 use crate::{Input, ReadRefused, TextRefused};
+use cube_check::Met;
 use sat_terms::{Cube, Items};
 use std::alloc::{AllocError, Global};
 
@@ -28,8 +29,18 @@ fn put_cubes(
     Ok(())
 }
 
+/// Puts a word behind the text, and then each cube with its hidden literals.
+fn put_met(alloc: Global, text: &mut String, met: &Items<Met>) -> Result<(), AllocError> {
+    text.push_str(" met")?;
+    for line in met.as_slice() {
+        put_list(alloc, text, line.cube.lits())?;
+        put_list(alloc, text, line.hidden.lits())?;
+    }
+    Ok(())
+}
+
 /// The number of variables, and behind a word each what there is of shown variables, given
-/// literals, clauses, cubes and prefixes.
+/// literals, clauses, cubes and prefixes, and of cubes with their hidden literals.
 fn accepted(alloc: Global, input: &Input) -> Result<String, AllocError> {
     let subject = &input.subject;
     let mut text = format!(in alloc; "{}", subject.formula.variables)?;
@@ -50,6 +61,9 @@ fn accepted(alloc: Global, input: &Input) -> Result<String, AllocError> {
         text.push_str(" saved")?;
         put_cubes(alloc, &mut text, " cubes", &saved.cubes)?;
         put_cubes(alloc, &mut text, " open", &saved.pending)?;
+    }
+    if let Some(met) = &input.met {
+        put_met(alloc, &mut text, met)?;
     }
     Ok(text)
 }

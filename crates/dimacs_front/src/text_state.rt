@@ -11,7 +11,7 @@ ghost use Rattle.dimacs_front.specs.Pieces.{Answered};
 use crate::comment_place::CommentPlace;
 use crate::header_place::{HeaderPlace, natural};
 use crate::line_place::LinePlace;
-use crate::saved_lines::{RisingLits, SavedLines};
+use crate::saved_lines::{Own, RisingLits, SavedLines};
 use crate::saved_place::SavedPlace;
 use crate::show_lines::ShowLines;
 use crate::under_lines::UnderLines;
@@ -29,7 +29,8 @@ mod under_line;
 
 /// The place in the line, whether there was a header, the formula below it, whether a show line was
 /// ended, the variables of all show lines, each once, the literals of the under lines, the lines of
-/// a saved text's own, and the literals of the open one of these.
+/// a saved or a met text's own, the literals of the open list of one of these, and the cube of the
+/// open met line.
 #[derive(Drop)]
 pub struct TextState {
     alloc: Global,
@@ -41,6 +42,7 @@ pub struct TextState {
     under: UnderLines,
     saved: SavedLines,
     lits: RisingLits,
+    first: Cube,
 }
 
 impl Model for TextState {
@@ -57,6 +59,7 @@ impl Model for TextState {
       under = s.under;
       saved = s.saved;
       lits = s.lits;
+      first = s.first;
     } };
 }
 
@@ -75,6 +78,7 @@ impl TextState {
             under: UnderLines::make(alloc),
             saved: SavedLines::make(alloc),
             lits: RisingLits::make(alloc),
+            first: Cube::from_vec(Vec::new(alloc)),
         }
     }
 
@@ -188,7 +192,7 @@ impl TextState {
         if !self.formula.is_ended() {
             return Some(TextRefused::Unfinished { line });
         }
-        if self.saved.is_named() && !self.saved.is_ended() {
+        if self.saved.has_end_line() && !self.saved.is_ended() {
             return Some(TextRefused::SavedUnended { line });
         }
         let said = self.formula.said();
@@ -229,7 +233,7 @@ impl TextState {
         }
     }
 
-    /// The input with these given literals, or why its saved lines are refused.
+    /// The input with these given literals, or why its saved lines or its met lines are refused.
     fn with_saved(self, shown: Items<u32>, under: Cube) -> Result<Input, ReadRefused>
         requires { IsVariableList shown }
         ensures { Answered (with_saved_lines self.formula shown under self.saved
@@ -238,7 +242,14 @@ impl TextState {
         if let Some(line) = self.saved.lowest_outside(shown.as_slice(), under.lits()) {
             return Err(ReadRefused::Text(TextRefused::SavedBad { line }));
         }
-        let saved = self.saved.into_saved(self.alloc)?;
+        let variables = self.formula.variables();
+        let unmet = self
+            .saved
+            .first_unmet(variables, shown.as_slice(), under.lits());
+        if let Some(line) = unmet {
+            return Err(ReadRefused::Text(TextRefused::SavedBad { line }));
+        }
+        let Own { saved, met } = self.saved.into_own(self.alloc)?;
         let formula = self.formula.into_formula();
         Ok(Input {
             subject: Subject {
@@ -247,6 +258,7 @@ impl TextState {
                 under,
             },
             saved,
+            met,
         })
     }
 }

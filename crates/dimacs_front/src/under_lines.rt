@@ -3,7 +3,7 @@ ghost use Rattle.std.specs.Prelude.{◌≡◌, ◌<◌, ◌^◌, true, ◌++◌,
 ghost use Rattle.sat_terms.specs.Literals.{IsLiteral};
 ghost use Rattle.sat_terms.specs.Cubes.{has_literal};
 ghost use Rattle.sat_terms.specs.Subjects.{IsVariableList};
-ghost use Rattle.dimacs_front.specs.MachineUnder.{AreSigns, signed, Judges};
+ghost use Rattle.dimacs_front.specs.MachineUnder.{AreSigns, signed, JudgesGiven};
 ghost use Rattle.dimacs_front.specs.TextEnds.{is_placed};
 
 use crate::show_lines::ShowLines;
@@ -64,7 +64,7 @@ impl UnderLines {
     /// each literal.
     pub fn cube(&self, alloc: Global, shown: &[u32]) -> Result<Result<Cube, u64>, AllocError>
         requires { IsVariableList shown.now }
-        ensures { IfOk result (λ r. Judges shown.now self.now r) }
+        ensures { IfOk result (λ r. JudgesGiven shown.now self.now r) }
     {
         let mut signs = Signs::make(alloc);
         for given in &self.given {

@@ -1,5 +1,5 @@
 use Rattle.dimacs_front.proofs.Taking.{nothing_read, text_told}
-use Rattle.dimacs_front.proofs.SavedInside.{text_inside}
+use Rattle.dimacs_front.proofs.SavedInside.{text_inside, text_met}
 use Rattle.dimacs_front.proofs.Sound.{text_limits}
 use Rattle.dimacs_front.proofs.read.read_subject.Goals as goal
 
@@ -14,3 +14,6 @@ returns-clause-sizes g c = text_limits _ _ _ c.read_pieces.ensures
 
 pub returns-clause-saved : goal.returns-clause-saved
 returns-clause-saved g c = text_inside _ _ _ c.read_pieces.ensures
+
+pub returns-clause-met : goal.returns-clause-met
+returns-clause-met g c = text_met _ _ _ c.read_pieces.ensures
