@@ -2,7 +2,7 @@
 //! standard output. What went wrong stands on standard error, and in the exit status.
 #![tactic(auto)]
 
-use allsat_run::{Status, Words, run, write_note};
+use allsat_run::{OpenGate, Status, Words, run, write_note};
 use fault_io::{StdSink, StdSource};
 use std::alloc::AllocError;
 use std::io::{ErrorKind, Lock};
@@ -16,7 +16,18 @@ fn main(rt: HostRuntime) -> ExitCode {
     let mut out = StdSink::make(io::writer(&rt));
     let mut notes = StdSink::make(rt.stderr().lock());
     let status = match given_words(&rt) {
-        Ok(words) => run(&rt, rt.alloc(), &words, &mut input, &mut out, &mut notes).status,
+        Ok(words) => {
+            run(
+                &rt,
+                rt.alloc(),
+                &words,
+                &mut input,
+                &mut out,
+                &mut notes,
+                &OpenGate,
+            )
+            .status
+        }
         Err(_) => {
             write_note(&Status::OutOfMemory, &mut notes);
             Status::OutOfMemory

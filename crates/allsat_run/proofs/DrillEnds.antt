@@ -19,7 +19,7 @@ use Rattle.drill.proofs.Subjects.{IsPair, rows_pairs, rows_short, drills_are_sub
 use Rattle.region_book.specs.Machine.{prefixes_of}
 use Rattle.region_book.specs.Arranged.{ArrangedView}
 use Rattle.allsat_run.specs.declared.status.Status.{Status}
-use Rattle.allsat_run.specs.declared.status.Status.TheVariants.{Finished, WordsRefused, InputRefused, BudgetSpent, OutOfMemory, ReadFault, WriteFault}
+use Rattle.allsat_run.specs.declared.status.Status.TheVariants.{Finished, WordsRefused, InputRefused, BudgetSpent, OutOfMemory, ReadFault, WriteFault, CheckedNo}
 use Rattle.allsat_run.specs.Run.{IsBookOf}
 use Rattle.allsat_run.specs.Searches.{Searches}
 use Rattle.allsat_run.specs.Drilling.{drill_input, AreFixed, EndsDrill, WritesDrill}
@@ -53,7 +53,7 @@ some_cube size cubes right none =
     let some : list_any (lies_in (drill size).shown a) cubes ≡ true = (right.exact a (good_long size a good)).1 (record { given = refl; good = good }) in
     both_ways false refl (subst (λ cs. list_any (lies_in (drill size).shown a) cs ≡ true) none some)
 
-are_fixed : (size : ℕ) (a : ArrangedView) → IsBookOf (drill_input size) None a → a.pending ≡ [] → AreFixed size (fixed_literals a.published)
+are_fixed : (size : ℕ) (a : ArrangedView) → IsBookOf (drill_input size) a → a.pending ≡ [] → AreFixed size (fixed_literals a.published)
 are_fixed size a of none l some among =
     let f = (drill size).formula.clauses in
     let p = (drill size).shown in
@@ -76,6 +76,7 @@ module _ (size : ℕ) (before now : SinkView) (a : ArrangedView) where
   drill_ends (InputRefused r) status' s (inr (is, out)) = absurd s.ends
   drill_ends (ReadFault line) status' s (inr (is, out)) = absurd s.ends
   drill_ends WriteFault status' s (inr (is, out)) = absurd s.ends
+  drill_ends (CheckedNo v) status' s (inr (is, out)) = absurd s.ends
 
   pub drill_completes : (status status' : Status) → Searches (drill_input size) None status a → WritesDrill before now status a status' → ¬ Rose before.faults now.faults →
       (status' ≡ Finished) ⊎ (status' ≡ OutOfMemory)
@@ -87,6 +88,7 @@ module _ (size : ℕ) (before now : SinkView) (a : ArrangedView) where
   drill_completes (InputRefused r) status' s (inr (is, out)) calm = absurd s.ends
   drill_completes (ReadFault line) status' s (inr (is, out)) calm = absurd s.ends
   drill_completes WriteFault status' s (inr (is, out)) calm = absurd s.ends
+  drill_completes (CheckedNo v) status' s (inr (is, out)) calm = absurd s.ends
 
   pub no_words : (status status' : Status) → Searches (drill_input size) None status a → WritesDrill before now status a status' → status' ≢ WordsRefused
   no_words status status' s (inl (is, front)) e = (let bad : WriteFault ≡ WordsRefused = sym is ∙ e in cc)
@@ -97,3 +99,4 @@ module _ (size : ℕ) (before now : SinkView) (a : ArrangedView) where
   no_words (InputRefused r) status' s (inr (is, out)) e = s.ends
   no_words (ReadFault line) status' s (inr (is, out)) e = s.ends
   no_words WriteFault status' s (inr (is, out)) e = s.ends
+  no_words (CheckedNo v) status' s (inr (is, out)) e = s.ends

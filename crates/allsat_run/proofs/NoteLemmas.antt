@@ -2,7 +2,7 @@
 use Rattle.std.proofs.Common.{◌≡◌, ℕ, List, Result, Ok, Err, ◌⊎◌, inl, inr, refl}
 use Rattle.fault_io.specs.Sinks.{SinkView, TakesBytes, TakesFront, TakesWhole}
 use Rattle.allsat_run.specs.declared.status.Status.{Status}
-use Rattle.allsat_run.specs.declared.status.Status.TheVariants.{Finished, WordsRefused, InputRefused, BudgetSpent, OutOfMemory, ReadFault, WriteFault}
+use Rattle.allsat_run.specs.declared.status.Status.TheVariants.{Finished, WordsRefused, InputRefused, BudgetSpent, OutOfMemory, ReadFault, WriteFault, CheckedNo}
 use Rattle.allsat_run.specs.Run.{Notes}
 use Rattle.allsat_run.specs.Status.{note_of}
 
@@ -22,3 +22,4 @@ noted sink notes notes' BudgetSpent unfinished put = put
 noted sink notes notes' OutOfMemory unfinished put = put
 noted sink notes notes' (ReadFault line) unfinished put = put
 noted sink notes notes' WriteFault unfinished put = put
+noted sink notes notes' (CheckedNo v) unfinished put = put

@@ -6,7 +6,7 @@ use Rattle.dimacs_front.specs.declared.input.Input.{Input}
 use Rattle.dimacs_front.specs.Answers.{AreInside}
 use Rattle.dimacs_front.specs.Whole.{reads}
 use Rattle.dimacs_front.proofs.SavedBack.{reads_back}
-use Rattle.region_book.specs.declared.pending.Pending.{Pending}
+use Rattle.region_book.specs.Machine.{Pending}
 use Rattle.region_book.specs.Machine.{prefixes_of}
 use Rattle.region_book.specs.Arranged.{ArrangedView}
 use Rattle.region_book.specs.Laws.{BeginsWhole}
@@ -18,8 +18,8 @@ some_text : (a : ArrangedView) (ps : List Pending) → ps ≢ [] → text_with p
 some_text a [] some = absurd (some refl)
 some_text a (q ∷ qs) some = refl
 
-pub a_stopped_run_goes_on : (input : Input) (budget : Option ℕ) (a : ArrangedView) → IsBookOf input budget a → BeginsWhole input.subject input.saved → a.pending ≢ [] → length (book_text a) ≤ 2 ^ 30 → SaysAgain input a
-a_stopped_run_goes_on input budget a of begins some short =
+pub a_stopped_run_goes_on : (input : Input) (a : ArrangedView) → IsBookOf input a → BeginsWhole input.subject input.saved → a.pending ≢ [] → length (book_text a) ≤ 2 ^ 30 → SaysAgain input a
+a_stopped_run_goes_on input a of begins some short =
     let s = input.subject in
     let whole = of.whole begins in
     let part = whole.partition in

@@ -7,20 +7,21 @@ use Rattle.fault_io.specs.Sources.{SourceView}
 use Rattle.fault_io.specs.Sinks.{SinkView, TakesFront}
 use Rattle.checkpoint.specs.SavedText.{saved_text}
 use Rattle.command_words.specs.declared.command.Command.{Command}
-use Rattle.command_words.specs.declared.command.Command.TheVariants.{Enumerate, Drill}
+use Rattle.command_words.specs.declared.command.Command.TheVariants.{Enumerate, Check, Drill}
 use Rattle.dimacs_front.specs.declared.input.Input.{Input}
 use Rattle.drill.specs.Drills.{drill}
 use Rattle.drill.specs.Summaries.{fixed_literals, summary}
-use Rattle.region_book.specs.declared.pending.Pending.{Pending}
+use Rattle.region_book.specs.Machine.{Pending}
 use Rattle.region_book.specs.Machine.{prefixes_of}
 use Rattle.region_book.specs.Arranged.{ArrangedView}
 use Rattle.allsat_run.specs.declared.status.Status.{Status}
 use Rattle.allsat_run.specs.declared.status.Status.TheVariants.{Finished, OutOfMemory, WriteFault}
+use Rattle.allsat_run.specs.Checking.{AnswersCheck, CompletesCheck}
 use Rattle.allsat_run.specs.Run.{IsBookOf, SaysOfBook, IsWritten, Writes, Answers, Completes}
 
 -- the drill of a size, as an input
 abbrev pub drill_input : ℕ → Input
-drill_input size = record { subject = drill size; saved = None }
+drill_input size = record { subject = drill size; saved = None; met = None }
 
 -- the summary of what is published, or the saved text where something is pending
 abbrev pub drill_text_with : List Pending → ArrangedView → List ℕ
@@ -48,7 +49,7 @@ AreFixed size lits =
 -- the run ended with a book of the drill, and its text is written
 pub record EndsDrill (size : ℕ) (before now : SinkView) (status : Status) (a : ArrangedView) :
     Type 0 where
-  pub book : IsBookOf (drill_input size) None a
+  pub book : IsBookOf (drill_input size) a
   pub says : SaysOfBook None status a
   pub fixed : a.pending ≡ [] → AreFixed size (fixed_literals a.published)
   pub written : Writes before now status (drill_text a)
@@ -69,9 +70,11 @@ module _ {S K : Type 0} (source : S → SourceView) (sink : K → SinkView) wher
   abbrev pub AnswersCommand : Option Command → S → S → K → K → Status → Option ArrangedView →
       Type 0
   AnswersCommand None input input' out out' status book =
-      Answers source sink input input' None out out' status book
+      Answers source sink input input' 1 None out out' status book
   AnswersCommand (Some (Enumerate workers budget)) input input' out out' status book =
-      Answers source sink input input' budget out out' status book
+      Answers source sink input input' workers budget out out' status book
+  AnswersCommand (Some Check) input input' out out' status book =
+      AnswersCheck source sink input input' out out' status book
   AnswersCommand (Some (Drill size workers)) input input' out out' status book =
       (input' ≡ input) × SaysDrill sink size out out' status book
 
@@ -80,5 +83,7 @@ module _ {S K : Type 0} (source : S → SourceView) (sink : K → SinkView) wher
   CompletesCommand None input input' out out' status = Unit {0}
   CompletesCommand (Some (Enumerate workers budget)) input input' out out' status =
       Completes source sink input input' budget out out' status
+  CompletesCommand (Some Check) input input' out out' status =
+      CompletesCheck source sink input input' out out' status
   CompletesCommand (Some (Drill size workers)) input input' out out' status =
       CompletesDrill sink out out' status

@@ -21,6 +21,6 @@ pub record SaysAgain (input : Input) (a : ArrangedView) : Type 0 where
 -- right lists hold the same assignments.
 abbrev pub StoppedRunGoesOn : Type 0
 StoppedRunGoesOn =
-    (input : Input) (budget : Option ℕ) (a : ArrangedView) → IsBookOf input budget a →
+    (input : Input) (a : ArrangedView) → IsBookOf input a →
     BeginsWhole input.subject input.saved → a.pending ≢ [] →
     length (book_text a) ≤ 2 ^ 30 → SaysAgain input a

@@ -1,3 +1,5 @@
+pub mod Checking
+pub mod Crews
 pub mod Drilling
 pub mod Laws
 pub mod Run

@@ -11,7 +11,7 @@ use Rattle.dimacs_front.specs.Answers.{IsInput, IsWithinLimits, IsRefused, IsOpe
 use Rattle.dimacs_front.specs.declared.input.Input.{Input}
 use Rattle.dimacs_front.specs.declared.refused.TextRefused.{TextRefused}
 use Rattle.dimacs_front.specs.declared.refused.ReadRefused.TheVariants.{Text}
-use Rattle.region_book.specs.declared.pending.Pending.{Pending}
+use Rattle.region_book.specs.Machine.{Pending}
 use Rattle.region_book.specs.Machine.{prefixes_of, AreLegal}
 use Rattle.region_book.specs.Starts.{start_of}
 use Rattle.region_book.specs.Books.{state_of}
@@ -23,9 +23,9 @@ use Rattle.allsat_run.specs.declared.status.Status.TheVariants.{Finished, WordsR
 use Rattle.allsat_run.specs.Status.{note_of}
 
 -- A book of an input within the limits: its events were legal from the start that the input gives,
--- its lists are what they made, in order, nobody holds a prefix, and no more leaves are spent than
--- are allowed. If the input begins with a partition, and a plain text always does, the book is one.
-pub record IsBookOf (input : Input) (budget : Option ℕ) (a : ArrangedView) : Type 0 where
+-- its lists are what they made, in order, and nobody holds a prefix. If the input begins with a
+-- partition, and a plain text always does, the book is one.
+pub record IsBookOf (input : Input) (a : ArrangedView) : Type 0 where
   pub limits : IsWithinLimits input
   pub subject : a.book.subject ≡ input.subject
   pub saved : a.book.saved ≡ input.saved
@@ -33,9 +33,13 @@ pub record IsBookOf (input : Input) (budget : Option ℕ) (a : ArrangedView) : T
       (start_of input.subject input.saved)
   pub arranged : IsArranged a
   pub unheld : AreUnheld a.pending
-  pub allowed : IsAllowed budget (state_of a.book).spent
   pub whole : BeginsWhole input.subject input.saved →
       IsWhole input.subject (state_of a.book).spent a.published (prefixes_of a.pending)
+
+-- One worker spends no more leaves than are allowed. Of more workers each may be at a leaf when the
+-- budget is spent.
+abbrev pub StaysWithin : ℕ → Option ℕ → ArrangedView → Type 0
+StaysWithin workers budget a = workers ≡ 1 → IsAllowed budget (state_of a.book).spent
 
 -- what the status says of the book
 abbrev pub SaysOfBook : Option ℕ → Status → ArrangedView → Type 0
@@ -66,11 +70,12 @@ Writes before now WriteFault text = TakesFront before now text
 Writes before now status text = IsWritten before now text
 
 -- all the bytes taken say an input, the run ended with a book of it, and its text is written
-pub record EndsWith (left : Option (List ℕ)) (taken : List ℕ) (budget : Option ℕ)
+pub record EndsWith (left : Option (List ℕ)) (taken : List ℕ) (workers : ℕ) (budget : Option ℕ)
     (before now : SinkView) (status : Status) (a : ArrangedView) : Type 0 where
   pub input : Input
   pub text : IsInput left taken input
-  pub book : IsBookOf input budget a
+  pub book : IsBookOf input a
+  pub within : StaysWithin workers budget a
   pub says : SaysOfBook budget status a
   pub written : Writes before now status (book_text a)
 
@@ -111,20 +116,21 @@ module _ {S K : Type 0} (source : S → SourceView) (sink : K → SinkView) wher
   SaysAlone input input' taken status = ⊥
 
   -- what status and book say of the bytes taken and of the output
-  abbrev pub Says : S → S → List ℕ → Option ℕ → K → K → Status → Option ArrangedView → Type 0
-  Says input input' taken budget out out' status (Some a) =
-      EndsWith (source input').left taken budget (sink out) (sink out') status a
-  Says input input' taken budget out out' status None =
+  abbrev pub Says :
+      S → S → List ℕ → ℕ → Option ℕ → K → K → Status → Option ArrangedView → Type 0
+  Says input input' taken workers budget out out' status (Some a) =
+      EndsWith (source input').left taken workers budget (sink out) (sink out') status a
+  Says input input' taken workers budget out out' status None =
       SaysAlone input input' taken status × (out' ≡ out)
 
   -- some bytes were taken, none of them in vain, and status and book are right for them
-  pub record Answers (input input' : S) (budget : Option ℕ) (out out' : K) (status : Status)
-      (book : Option ArrangedView) : Type 0 where
+  pub record Answers (input input' : S) (workers : ℕ) (budget : Option ℕ) (out out' : K)
+      (status : Status) (book : Option ArrangedView) : Type 0 where
     pub taken : List ℕ
     pub consumed : Consumes (source input).left (source input').left taken
     pub asked : IsAskedFor taken
     pub counted : CountsReadFault (source input).faults (source input').faults status
-    pub says : Says input input' taken budget out out' status book
+    pub says : Says input input' taken workers budget out out' status book
 
   -- neither stream failed: the run ends as the text says, or there was no memory
   abbrev pub Completes : S → S → Option ℕ → K → K → Status → Type 0

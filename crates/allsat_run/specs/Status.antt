@@ -5,7 +5,7 @@ use Rattle.dimacs_front.specs.declared.refused.TextRefused.{TextRefused}
 use Rattle.dimacs_front.specs.declared.refused.TextRefused.TheVariants.{ClauseCount}
 use Rattle.dimacs_front.specs.Numbering.{number_of, name_of, line_of}
 use Rattle.allsat_run.specs.declared.status.Status.{Status}
-use Rattle.allsat_run.specs.declared.status.Status.TheVariants.{Finished, WordsRefused, InputRefused, BudgetSpent, OutOfMemory, ReadFault, WriteFault}
+use Rattle.allsat_run.specs.declared.status.Status.TheVariants.{Finished, WordsRefused, InputRefused, BudgetSpent, OutOfMemory, ReadFault, WriteFault, CheckedNo}
 
 -- the exit code
 abbrev pub code_of : Status → ℕ
@@ -16,6 +16,7 @@ code_of BudgetSpent = 3
 code_of OutOfMemory = 4
 code_of (ReadFault line) = 5
 code_of WriteFault = 6
+code_of (CheckedNo v) = 7
 
 -- a number, and the end of the line
 abbrev pub number_line : ℕ → List ℕ
@@ -41,3 +42,4 @@ note_of BudgetSpent = codes "allsat: budget spent\n"
 note_of OutOfMemory = codes "allsat: out of memory\n"
 note_of (ReadFault line) = codes "allsat: read fault line " ++ number_line line
 note_of WriteFault = codes "allsat: write fault\n"
+note_of (CheckedNo v) = codes "allsat: check said no\n"

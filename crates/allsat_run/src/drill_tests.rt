@@ -1,5 +1,5 @@
 //! Drills of some sizes, run whole. The input would fail at the first call.
-use crate::{Status, Words, run};
+use crate::{OpenGate, Status, Words, run};
 use fault_io::{BytesIn, BytesOut};
 use std::alloc::{AllocError, Global};
 use std::sync::Wait;
@@ -26,7 +26,9 @@ fn comes_to<R: Threads + Wait + Sync + AllocGlobal>(
     let mut input = BytesIn::make(b"x".to_vec(alloc)?, 4, [1u64].to_vec(alloc)?);
     let mut out = BytesOut::make(alloc, 1000, 4, Vec::new(alloc))?;
     let mut notes = BytesOut::make(alloc, 100, 4, Vec::new(alloc))?;
-    let ended = run(rt, alloc, &words, &mut input, &mut out, &mut notes);
+    let ended = run(
+        rt, alloc, &words, &mut input, &mut out, &mut notes, &OpenGate,
+    );
     Ok(ended.status == Status::Finished && out.bytes() == summary && notes.bytes().is_empty())
 }
 

@@ -11,11 +11,24 @@ use drill::{drill_subject, write_summary};
 use fault_io::{Sink, WriteFault};
 use region_book::ArrangedBook;
 use std::alloc::Global;
+use std::sync::Wait;
+use std::thread::Threads;
+use worker_loop::Gate;
 
-/// Lists the drill of a size, and writes what its models have in common. It takes no input.
+/// Lists the drill of a size by so many workers, and writes what its models have in common. It takes
+/// no input.
 #[tactic(auto, using(crate::proofs::DrillEnds::drill_limits, crate::proofs::DrillEnds::drill_ends, crate::proofs::DrillEnds::drill_completes, crate::proofs::DrillEnds::no_words,))]
-pub(crate) fn drill_alone<K: Sink>(alloc: Global, size: u32, out: &mut K) -> Ended
-    requires { size ≤ 48 }
+pub(crate) fn run_drill<R: Threads + Wait + Sync, K: Sink, G: Gate + Sync>(
+    rt: &R,
+    alloc: Global,
+    size: u32,
+    workers: u32,
+    out: &mut K,
+    gate: &G,
+) -> Ended
+    requires size { size ≤ 48 }
+    requires some { 1 ≤ workers }
+    requires few { workers ≤ 16 }
     ensures words { result.status ≢ Status.WordsRefused }
     ensures says { SaysDrill K.shows size out.old out.new result.status result.book }
     ensures complete { CompletesDrill K.shows out.old out.new result.status }
@@ -27,8 +40,9 @@ pub(crate) fn drill_alone<K: Sink>(alloc: Global, size: u32, out: &mut K) -> End
     let input = Input {
         subject,
         saved: None,
+        met: None,
     };
-    match search(alloc, input, None) {
+    match search(rt, alloc, input, workers, None, gate) {
         Ok(searched) => write_drill(searched, out),
         Err(_) => Ended::alone(Status::OutOfMemory),
     }
@@ -59,7 +73,7 @@ fn write_drill_text<K: Sink>(book: &mut ArrangedBook, out: &mut K) -> Result<(),
     ensures written { TakesWhole (K.shows out.old) (K.shows out.new) (drill_text book.old) result }
     ensures same { book.new ≡ book.old }
 {
-    if book.pending().is_empty() {
+    if book.is_finished() {
         write_summary(book, out)
     } else {
         write_saved(book, out)

@@ -1,13 +1,14 @@
 //! The whole run: words, then the input, then the enumeration, then the text of the book.
-ghost use Rattle.std.specs.Prelude.{◌≡◌, ◌≢◌, ◌↔◌, None, Some};
+ghost use Rattle.std.specs.Prelude.{◌≡◌, ◌≢◌, ◌↔◌, ◌≤◌, None, Some};
 ghost use Rattle.fault_io.specs.Sinks.{TakesWhole};
 ghost use Rattle.allsat_run.specs.Run.{Answers, Completes, Notes, book_text};
 ghost use Rattle.allsat_run.specs.Drilling.{AnswersCommand, CompletesCommand};
 ghost use Rattle.allsat_run.specs.Searches.{WritesBook};
 ghost use Rattle.command_words.specs.Commands.{command_of};
 
-use crate::drilling::drill_alone;
-use crate::search::{Searched, search};
+use crate::checking::check_alone;
+use crate::drilling::run_drill;
+use crate::search::{Searched, search, search_alone};
 use crate::{Ended, Status, write_note};
 use checkpoint::write_saved;
 use command_words::{Command, Words, read_words};
@@ -18,19 +19,23 @@ use region_book::ArrangedBook;
 use std::alloc::Global;
 use std::sync::Wait;
 use std::thread::Threads;
+use worker_loop::Gate;
 
 /// Does all that the program does: reads the words, then the input, enumerates, and writes the
 /// listing, or the saved text of a run that stopped, to `out`, and the line of the status to
-/// `notes`. A drill takes no input, and its summary stands in place of the listing. `words` are the
-/// words after the program's name. Each number of workers is served by one, the calling thread.
+/// `notes`. A drill takes no input, and its summary stands in place of the listing. A check writes
+/// its verdict on a met text. `words` are the words after the program's name. One worker is the calling thread, which then waits for nobody;
+/// of more workers each has a thread where one can be had. All of them pass the gate, which changes
+/// nothing.
 #[tactic(auto, using(dimacs_front::proofs::Taking::nothing_asked))]
-pub fn run<R: Threads + Wait + Sync, S: Source, K: Sink, N: Sink>(
-    _rt: &R,
+pub fn run<R: Threads + Wait + Sync, S: Source, K: Sink, N: Sink, G: Gate + Sync>(
+    rt: &R,
     alloc: Global,
     words: &Words,
     input: &mut S,
     out: &mut K,
     notes: &mut N,
+    gate: &G,
 ) -> Ended
     ensures words { (result.status ≡ Status.WordsRefused) ↔ (command_of words.now ≡ None) }
     ensures answers { AnswersCommand S.shows K.shows (command_of words.now) input.old input.new
@@ -40,12 +45,45 @@ pub fn run<R: Threads + Wait + Sync, S: Source, K: Sink, N: Sink>(
     ensures notes { Notes N.shows notes.old notes.new result.status }
 {
     let ended = match read_words(words) {
-        Some(Command::Enumerate { budget, .. }) => enumerate_alone(alloc, input, out, budget),
-        Some(Command::Drill { size, .. }) => drill_alone(alloc, size, out),
+        Some(Command::Enumerate { workers, budget }) => {
+            enumerate(rt, alloc, input, out, workers, budget, gate)
+        }
+        Some(Command::Check) => check_alone(alloc, input, out),
+        Some(Command::Drill { size, workers }) => run_drill(rt, alloc, size, workers, out, gate),
         None => Ended::alone(Status::WordsRefused),
     };
     write_note(&ended.status, notes);
     ended
+}
+
+/// Reads the input, enumerates by so many workers, and writes the listing, or the saved text.
+fn enumerate<R: Threads + Wait + Sync, S: Source, K: Sink, G: Gate + Sync>(
+    rt: &R,
+    alloc: Global,
+    input: &mut S,
+    out: &mut K,
+    workers: u32,
+    budget: Option<u64>,
+    gate: &G,
+) -> Ended
+    requires some { 1 ≤ workers }
+    requires few { workers ≤ 16 }
+    ensures words { result.status ≢ Status.WordsRefused }
+    ensures answers { Answers S.shows K.shows input.old input.new workers budget out.old out.new
+        result.status result.book }
+    ensures complete { Completes S.shows K.shows input.old input.new budget out.old out.new
+        result.status }
+{
+    let input = match read_subject(alloc, input) {
+        Ok(input) => input,
+        Err(ReadRefused::Text(refused)) => return Ended::alone(Status::InputRefused(refused)),
+        Err(ReadRefused::ReadFault(line)) => return Ended::alone(Status::ReadFault(line)),
+        Err(ReadRefused::OutOfMemory(_)) => return Ended::alone(Status::OutOfMemory),
+    };
+    match search(rt, alloc, input, workers, budget, gate) {
+        Ok(searched) => write_out(searched, out),
+        Err(_) => Ended::alone(Status::OutOfMemory),
+    }
 }
 
 /// Reads the input, enumerates and writes the listing, or the saved text, on the calling thread. It
@@ -57,7 +95,7 @@ pub fn enumerate_alone<S: Source, K: Sink>(
     budget: Option<u64>,
 ) -> Ended
     ensures words { result.status ≢ Status.WordsRefused }
-    ensures answers { Answers S.shows K.shows input.old input.new budget out.old out.new
+    ensures answers { Answers S.shows K.shows input.old input.new 1 budget out.old out.new
         result.status result.book }
     ensures complete { Completes S.shows K.shows input.old input.new budget out.old out.new
         result.status }
@@ -68,7 +106,7 @@ pub fn enumerate_alone<S: Source, K: Sink>(
         Err(ReadRefused::ReadFault(line)) => return Ended::alone(Status::ReadFault(line)),
         Err(ReadRefused::OutOfMemory(_)) => return Ended::alone(Status::OutOfMemory),
     };
-    match search(alloc, input, budget) {
+    match search_alone(alloc, input, budget) {
         Ok(searched) => write_out(searched, out),
         Err(_) => Ended::alone(Status::OutOfMemory),
     }
@@ -98,7 +136,7 @@ fn write_text<K: Sink>(book: &mut ArrangedBook, out: &mut K) -> Result<(), Write
     ensures written { TakesWhole (K.shows out.old) (K.shows out.new) (book_text book.old) result }
     ensures same { book.new ≡ book.old }
 {
-    if book.pending().is_empty() {
+    if book.is_finished() {
         write_listing(book, out)
     } else {
         write_saved(book, out)

@@ -2,7 +2,11 @@
 #![tactic(auto)]
 
 #[cfg(test)]
+mod check_tests;
+mod checking;
+#[cfg(test)]
 mod counts;
+mod crew;
 #[cfg(test)]
 mod drawn;
 #[cfg(test)]
@@ -22,15 +26,20 @@ mod resume_tests;
 #[cfg(test)]
 mod saved_tests;
 mod search;
+mod sharing;
+#[cfg(test)]
+mod sharing_tests;
 mod status;
 #[cfg(test)]
 mod stops;
 
 pub use command_words::Words;
+pub use cube_check::Verdict;
 pub use dimacs_front::TextRefused;
 pub use enumerate::{enumerate_alone, run};
 pub use notes::write_note;
 pub use status::{Ended, Status};
+pub use worker_loop::{Gate, OpenGate, Point};
 
 #[cfg(test)]
 mod tests;

@@ -40,6 +40,7 @@ fn put_note<N: Sink>(status: &Status, buffer: &mut Buffered, notes: &mut N)
             put_number_line(*line, buffer, notes);
         }
         Status::WriteFault => buffer.put(b"allsat: write fault\n", notes),
+        Status::CheckedNo(_) => buffer.put(b"allsat: check said no\n", notes),
     }
 }
 

@@ -29,7 +29,7 @@ fn subject_of(rt: &impl Abort, alloc: Global, text: &[u8]) -> Result<Subject, Al
 }
 
 /// What is wanted of a text.
-fn wanted_of(rt: &impl Abort, alloc: Global, text: &[u8]) -> Result<Counts, AllocError> {
+pub(crate) fn wanted_of(rt: &impl Abort, alloc: Global, text: &[u8]) -> Result<Counts, AllocError> {
     let subject = subject_of(rt, alloc, text)?;
     count_plain(alloc, &subject)
 }

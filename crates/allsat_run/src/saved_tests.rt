@@ -1,5 +1,5 @@
 //! Runs that stop at a budget, and runs that go on from a saved text, byte for byte.
-use crate::{Ended, Status, TextRefused, Words, enumerate_alone, run};
+use crate::{Ended, OpenGate, Status, TextRefused, Words, enumerate_alone, run};
 use fault_io::{BytesIn, BytesOut};
 use std::alloc::{AllocError, Global};
 use std::test::Fail;
@@ -63,7 +63,9 @@ fn the_words_give_the_budget_and_the_notes_tell_of_it(rt: HostRuntime) -> Result
     let mut input = BytesIn::make(FORMULA.to_vec(alloc)?, 4, Vec::new(alloc));
     let mut out = BytesOut::make(alloc, 1000, 4, Vec::new(alloc))?;
     let mut notes = BytesOut::make(alloc, 100, 4, Vec::new(alloc))?;
-    let ended = run(&rt, alloc, &words, &mut input, &mut out, &mut notes);
+    let ended = run(
+        &rt, alloc, &words, &mut input, &mut out, &mut notes, &OpenGate,
+    );
     assert_eq!(rt; ended.status, Status::BudgetSpent);
     assert_eq!(rt; ended.status.code(), 3);
     assert_eq!(rt; out.bytes(), SAVED);

@@ -1,13 +1,14 @@
 //! How a run ended.
 ghost use Rattle.std.specs.Prelude.{◌≡◌, None};
 
+use cube_check::Verdict;
 use dimacs_front::TextRefused;
 use region_book::ArrangedBook;
 
 /// How a run ended.
 #[derive(Clone, Copy, Debug, PartialEq, Eq)]
 pub enum Status {
-    /// The listing is written, whole.
+    /// The listing is written, whole; of a drill its summary, of a check that all is right.
     Finished,
     /// The words are no command.
     WordsRefused,
@@ -21,8 +22,11 @@ pub enum Status {
     OutOfMemory,
     /// The input failed in this line, counted from 1.
     ReadFault(u64),
-    /// The output failed; a front of the listing or of the saved text is written.
+    /// The output failed; a front of what was to be written is there.
     WriteFault,
+    /// The check of a met text found this, which is not that it is right; the verdict's line is
+    /// written.
+    CheckedNo(Verdict),
 }
 
 impl Status {
@@ -40,6 +44,7 @@ impl Status {
             Status::OutOfMemory => 4,
             Status::ReadFault(_) => 5,
             Status::WriteFault => 6,
+            Status::CheckedNo(_) => 7,
         }
     }
 }

@@ -3,7 +3,8 @@ ghost use Rattle.std.specs.Prelude.{IfOk};
 ghost use Rattle.sat_terms.specs.Subjects.{IsSubject};
 
 use crate::counts::Counts;
-use crate::{Status, enumerate_alone};
+use crate::{Ended, Status, enumerate_alone};
+use checkpoint::SavedView;
 use fault_io::{BytesIn, BytesOut};
 use plain_search::enumerate_plain;
 use region_book::ArrangedBook;
@@ -53,8 +54,8 @@ fn count_published(alloc: Global, book: &ArrangedBook) -> Result<Counts, AllocEr
 fn count_pending(alloc: Global, book: &ArrangedBook) -> Result<Counts, AllocError> {
     let shown = book.subject().shown.as_slice();
     let mut counts = Counts::none(alloc, shown)?;
-    for pending in book.pending() {
-        counts.count(shown, pending.prefix.lits());
+    for i in 0..book.pending_count() {
+        counts.count(shown, book.prefix(i));
     }
     Ok(counts)
 }
@@ -69,6 +70,16 @@ pub(crate) fn run_once(
     let mut input = BytesIn::make(text, 65_536, Vec::new(alloc));
     let mut out = BytesOut::make(alloc, ROOM, 65_536, Vec::new(alloc))?;
     let ended = enumerate_alone(alloc, &mut input, &mut out, budget);
+    stop_of(rt, alloc, ended, &out)
+}
+
+/// What a run came to that ended with a book and wrote this.
+pub(crate) fn stop_of(
+    rt: &impl Abort,
+    alloc: Global,
+    ended: Ended,
+    out: &BytesOut,
+) -> Result<Stop, AllocError> {
     let book = ended.book.expect(rt, "a book");
     Ok(Stop {
         status: ended.status,
@@ -111,11 +122,15 @@ impl Stop {
             Status::BudgetSpent => budget == Some(self.spent),
             _ => false,
         };
-        spends
-            && is_partition(
-                plain.as_slice(),
-                self.published.as_slice(),
-                self.pending.as_slice(),
-            )
+        spends && self.is_partition_of(plain)
+    }
+
+    /// Whether what is published and what is pending are a partition.
+    pub(crate) fn is_partition_of(&self, plain: &Counts) -> bool {
+        is_partition(
+            plain.as_slice(),
+            self.published.as_slice(),
+            self.pending.as_slice(),
+        )
     }
 }

@@ -1,5 +1,5 @@
 //! Whole runs over memory: the listings of worked examples byte for byte, and faults in mid-stream.
-use crate::{Ended, Status, TextRefused, Words, run};
+use crate::{Ended, OpenGate, Status, TextRefused, Words, run};
 use fault_io::{BytesIn, BytesOut};
 use std::alloc::{AllocError, Global};
 use std::sync::Wait;
@@ -35,7 +35,9 @@ fn run_with_faults<R: Threads + Wait + Sync + AllocGlobal>(
     let mut input = BytesIn::make(text.to_vec(alloc)?, 4, in_fails.to_vec(alloc)?);
     let mut out = BytesOut::make(alloc, room, 4, out_fails.to_vec(alloc)?)?;
     let mut notes = BytesOut::make(alloc, 200, 7, Vec::new(alloc))?;
-    let ended = run(rt, alloc, &words, &mut input, &mut out, &mut notes);
+    let ended = run(
+        rt, alloc, &words, &mut input, &mut out, &mut notes, &OpenGate,
+    );
     Ok(Ran { ended, out, notes })
 }
 
@@ -245,9 +247,9 @@ fn a_refused_text_is_named_with_its_line(rt: HostRuntime) -> Result<(), Fail> {
             b"allsat: input refused: 9 ShowBad line 1\n",
         ),
         (
-            b"c allsat met 1\np cnf 0 0\nc p end\n",
-            TextRefused::NotBuilt { line: 1 },
-            b"allsat: input refused: 20 NotBuilt line 1\n",
+            b"c allsat met 1\np cnf 0 0\n",
+            TextRefused::SavedUnended { line: 2 },
+            b"allsat: input refused: 17 SavedUnended line 2\n",
         ),
     ];
     for (text, refused, note) in texts {
@@ -271,7 +273,9 @@ fn words_that_are_no_command_are_refused(rt: HostRuntime) -> Result<(), Fail> {
         let mut input = BytesIn::make(b"p cnf 0 0\n".to_vec(alloc)?, 4, Vec::new(alloc));
         let mut out = BytesOut::make(alloc, 100, 4, Vec::new(alloc))?;
         let mut notes = BytesOut::make(alloc, 100, 4, Vec::new(alloc))?;
-        let ended = run(&rt, alloc, &words, &mut input, &mut out, &mut notes);
+        let ended = run(
+            &rt, alloc, &words, &mut input, &mut out, &mut notes, &OpenGate,
+        );
         assert_eq!(rt; ended.status, Status::WordsRefused);
         assert_eq!(rt; ended.status.code(), 1);
         assert_eq!(rt; out.bytes().len(), 0);
@@ -330,7 +334,9 @@ fn notes_that_fail_change_nothing_else(rt: HostRuntime) -> Result<(), Fail> {
     let mut input = BytesIn::make(b"1 0\n".to_vec(alloc)?, 4, Vec::new(alloc));
     let mut out = BytesOut::make(alloc, 100, 4, Vec::new(alloc))?;
     let mut notes = BytesOut::make(alloc, 100, 4, [1u64].to_vec(alloc)?)?;
-    let ended = run(&rt, alloc, &words, &mut input, &mut out, &mut notes);
+    let ended = run(
+        &rt, alloc, &words, &mut input, &mut out, &mut notes, &OpenGate,
+    );
     assert_eq!(rt;
         ended.status,
         Status::InputRefused(TextRefused::BadStart { line: 1 })

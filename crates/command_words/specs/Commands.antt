@@ -7,7 +7,7 @@ use Rattle.command_words.specs.declared.reading.Setting.{Setting}
 use Rattle.command_words.specs.declared.reading.Setting.TheVariants.{Workers, Budget, Size}
 use Rattle.command_words.specs.declared.reading.Reading.{Reading}
 use Rattle.command_words.specs.declared.command.Command.{Command}
-use Rattle.command_words.specs.declared.command.Command.TheVariants.{Enumerate, Drill}
+use Rattle.command_words.specs.declared.command.Command.TheVariants.{Enumerate, Check, Drill}
 
 -- The number from 1 to `most` that decimal digits write, where there is nothing but digits. Zeros
 -- may stand before them. No digits have the value 0.
@@ -91,17 +91,30 @@ drill_by r =
     cond (is_some r.waiting || is_some r.budget) None
     (option_map (λ n. Drill n (unwrap_or r.workers 1)) r.size)
 
--- The command: the word `enumerate` or `drill`, and options behind it in any order.
+-- The command to check, which has no options.
+abbrev pub check_by : List (List ℕ) → Option Command
+check_by [] = Some Check
+check_by (word ∷ words) = None
+
+-- The command: the word `enumerate` or `drill`, and options behind it in any order, or the word
+-- `check` alone.
 abbrev pub command_of : List (List ℕ) → Option Command
 command_of [] = None
 command_of (word ∷ words) =
     cond (bytes_eq word (codes "enumerate")) (option_and_then enumerate_by (options_of words))
-    (cond (bytes_eq word (codes "drill")) (option_and_then drill_by (options_of words)) None)
+    (cond (bytes_eq word (codes "check")) (check_by words)
+    (cond (bytes_eq word (codes "drill")) (option_and_then drill_by (options_of words)) None))
 
--- The sizes that were read are those that a drill may have.
-abbrev pub HasSize : Reading → Type 0
-HasSize r = (n : ℕ) → r.size ≡ Some n → n ≤ 48
+-- So many workers may there be.
+abbrev pub AreWorkers : ℕ → Type 0
+AreWorkers n = (1 ≤ n) × (n ≤ 16)
 
-abbrev pub FitsDrill : Command → Type 0
-FitsDrill (Enumerate workers budget) = Unit {0}
-FitsDrill (Drill size workers) = size ≤ 48
+-- The numbers that were read are those that their options may have.
+pub record HasRanges (r : Reading) : Type 0 where
+  pub size : (n : ℕ) → r.size ≡ Some n → n ≤ 48
+  pub workers : (n : ℕ) → r.workers ≡ Some n → AreWorkers n
+
+abbrev pub IsInRange : Command → Type 0
+IsInRange (Enumerate workers budget) = AreWorkers workers
+IsInRange Check = Unit {0}
+IsInRange (Drill size workers) = (size ≤ 48) × AreWorkers workers

@@ -7,6 +7,7 @@ ghost use Rattle.command_words.specs.Commands.{number_upto};
 pub(crate) fn number_upto(most: u64, text: &[u8]) -> Option<u64>
     requires { most < 2 ^ 64 - 1 }
     ensures number { result ≡ number_upto most text.now }
+    ensures from { IfSome result (λ n. 1 ≤ n) }
     ensures upto { IfSome result (λ n. n ≤ most) }
 {
     let mut value: u64 = 0;

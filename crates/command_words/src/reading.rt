@@ -2,7 +2,7 @@
 ghost use Rattle.std.specs.Prelude.{◌≡◌, Some, IfSome};
 ghost use Rattle.command_words.specs.declared.reading.Setting.TheVariants.{Workers, Budget, Size};
 ghost use Rattle.command_words.specs.Commands.{nothing_read, with_word, with_name, with_both};
-ghost use Rattle.command_words.specs.Commands.{with_value, HasSize};
+ghost use Rattle.command_words.specs.Commands.{with_value, HasRanges};
 
 use crate::number::number_upto;
 
@@ -51,9 +51,9 @@ impl Reading {
 
     /// One word more. None where no command has it here.
     pub(crate) fn with_word(self, word: &[u8]) -> Option<Reading>
-        requires { HasSize self }
+        requires { HasRanges self }
         ensures word { result ≡ with_word word.now self }
-        ensures size { IfSome result HasSize }
+        ensures ranges { IfSome result HasRanges }
     {
         match self.waiting {
             Some(setting) => self.with_value(setting, word),
@@ -63,9 +63,9 @@ impl Reading {
 
     /// The word is an option, or an option with its number.
     fn with_name(self, word: &[u8]) -> Option<Reading>
-        requires { HasSize self }
+        requires { HasRanges self }
         ensures word { result ≡ with_name word.now self }
-        ensures size { IfSome result HasSize }
+        ensures ranges { IfSome result HasRanges }
     {
         if word == b"--workers".as_slice() {
             return Some(self.waiting_for(Setting::Workers));
@@ -81,9 +81,9 @@ impl Reading {
 
     /// The word is an option with its number.
     fn with_both(self, word: &[u8]) -> Option<Reading>
-        requires { HasSize self }
+        requires { HasRanges self }
         ensures word { result ≡ with_both word.now self }
-        ensures size { IfSome result HasSize }
+        ensures ranges { IfSome result HasRanges }
     {
         if let Some(value) = word.strip_prefix(b"--workers=") {
             return self.with_value(Setting::Workers, value);
@@ -110,9 +110,9 @@ impl Reading {
 
     /// The option has this number. None where it has one already, or the text is none in its range.
     fn with_value(self, setting: Setting, text: &[u8]) -> Option<Reading>
-        requires { HasSize self }
+        requires { HasRanges self }
         ensures value { result ≡ with_value setting text.now self }
-        ensures size { IfSome result HasSize }
+        ensures ranges { IfSome result HasRanges }
     {
         match setting {
             Setting::Workers => self.with_workers(text),
@@ -122,9 +122,9 @@ impl Reading {
     }
 
     fn with_workers(self, text: &[u8]) -> Option<Reading>
-        requires { HasSize self }
+        requires { HasRanges self }
         ensures value { result ≡ with_value Workers text.now self }
-        ensures size { IfSome result HasSize }
+        ensures ranges { IfSome result HasRanges }
     {
         if self.workers.is_some() {
             return None;
@@ -139,9 +139,9 @@ impl Reading {
     }
 
     fn with_budget(self, text: &[u8]) -> Option<Reading>
-        requires { HasSize self }
+        requires { HasRanges self }
         ensures value { result ≡ with_value Budget text.now self }
-        ensures size { IfSome result HasSize }
+        ensures ranges { IfSome result HasRanges }
     {
         if self.budget.is_some() {
             return None;
@@ -156,9 +156,9 @@ impl Reading {
     }
 
     fn with_size(self, text: &[u8]) -> Option<Reading>
-        requires { HasSize self }
+        requires { HasRanges self }
         ensures value { result ≡ with_value Size text.now self }
-        ensures size { IfSome result HasSize }
+        ensures ranges { IfSome result HasRanges }
     {
         if self.size.is_some() {
             return None;

@@ -22,7 +22,8 @@ fn enumerate(workers: u32, budget: Option<u64>) -> Option<Command> {
 
 #[test]
 fn a_number_stands_behind_its_option_or_in_the_same_word(rt: HostRuntime) -> Result<(), Fail> {
-    let rows: [(&[&str], Option<Command>); 13] = [
+    let rows: [(&[&str], Option<Command>); 14] = [
+        (&["check"], Some(Command::Check)),
         (&["drill", "--size", "4"], drill(4, 1)),
         (&["drill", "--size=48"], drill(48, 1)),
         (&["drill", "--workers", "3", "--size", "01"], drill(1, 3)),
@@ -66,7 +67,7 @@ fn a_number_stands_behind_its_option_or_in_the_same_word(rt: HostRuntime) -> Res
 
 #[test]
 fn other_words_make_no_command(rt: HostRuntime) -> Result<(), Fail> {
-    let rows: [&[&str]; 51] = [
+    let rows: [&[&str]; 54] = [
         &["drill"],
         &["drill", "4"],
         &["drill", "--size"],
@@ -79,7 +80,10 @@ fn other_words_make_no_command(rt: HostRuntime) -> Result<(), Fail> {
         &[],
         &[""],
         &["list"],
-        &["check"],
+        &["check", ""],
+        &["check", "--workers=1"],
+        &["check", "check"],
+        &["checks"],
         &["Enumerate"],
         &["enumerate "],
         &["enumerate", "enumerate"],

@@ -24,3 +24,6 @@ returns-in-ReadFault g c =
 
 pub returns-in-WriteFault : goal.returns-in-WriteFault
 returns-in-WriteFault g c = Hands-along _ _ _ _ _ _ (ap note_of (sym c.in-WriteFault.is)) c.put-in-WriteFault.ensures
+
+pub returns-in-CheckedNo : goal.returns-in-CheckedNo
+returns-in-CheckedNo g c = Hands-along _ _ _ _ _ _ (ap note_of (sym c.in-CheckedNo.is)) c.put-in-CheckedNo.ensures
