@@ -13,8 +13,10 @@ import sys
 from collections import namedtuple
 
 # The clauses are as written; the shown variables rise, and so do those of the given literals. What
-# a saved text has besides is a Saved, two lists of cubes; of any other text it is None.
-Formula = namedtuple("Formula", "variables clauses shown under saved")
+# a saved text has besides is a Saved, two lists of cubes; of any other text it is None. What a met
+# text has is a list of Met, a cube and hidden literals each; of any other text it is None.
+Formula = namedtuple("Formula", "variables clauses shown under saved met")
+Met = namedtuple("Met", "cube hidden")
 Saved = namedtuple("Saved", "cubes pending")
 Limits = namedtuple("Limits", "bytes variables clauses literals shown")
 
@@ -45,7 +47,7 @@ NUMBERS = {
     "TextTooLong": 15,
     "SavedBad": 16,
     "SavedUnended": 17,
-    "NotBuilt": 20,
+    "NoMetText": 19,
     "UnderBad": 21,
     "UnderUnended": 22,
 }
@@ -109,7 +111,8 @@ class Reader:
         self.given = []  # the literals of the under lines, each with the number of its line
         self.ended = False  # whether a line that begins with % came
         self.saved = None  # of a saved text, its cube lines and open lines with their numbers
-        self.saved_ended = False  # whether its end line came
+        self.met = None  # of a met text, its met lines with their numbers
+        self.own_ended = False  # whether the end line of a saved or a met text came
 
     def line(self, number, line):
         """Reads a line, or raises its refusal."""
@@ -137,29 +140,44 @@ class Reader:
             values = self.list_line(number, tokens[3:], "Under", -MOST_NAMED_VARIABLE)
             self.given += [(number, value) for value in values]
         elif number == 1 and words == [b"c", b"allsat", b"met"]:
-            raise Refused("NotBuilt", 1)
+            if tokens[3:] != [b"1"]:
+                raise Refused("SavedBad", 1)
+            self.met = []
         elif number == 1 and words == [b"c", b"allsat", b"saved"]:
             if tokens[3:] not in ([b"1"], [b"2"]):
                 raise Refused("SavedBad", 1)
             self.saved = Saved([], [])
-        elif self.saved is not None and words[:2] == [b"c", b"p"]:
-            self.saved_line(number, words[2:], tokens[3:])
+        elif words[:2] == [b"c", b"p"] and words[2:] in self.own_words():
+            self.own_line(number, words[2:], tokens[3:])
 
-    def saved_line(self, number, word, tokens):
-        """A line that a saved text has of its own; any other comment line is passed over."""
-        if word not in ([b"cube"], [b"open"], [b"end"]):
-            return
-        if self.saved_ended or (word == [b"end"] and tokens):
+    def own_words(self):
+        """The words of the lines that a text of this kind has of its own."""
+        if self.saved is not None:
+            return [[b"cube"], [b"open"], [b"end"]]
+        return [] if self.met is None else [[b"met"], [b"end"]]
+
+    def own_line(self, number, word, tokens):
+        """A line that a saved text or a met text has of its own."""
+        if self.own_ended or (word == [b"end"] and tokens):
             raise Refused("SavedBad", number)
         if word == [b"end"]:
-            self.saved_ended = True
-            return
+            self.own_ended = True
+        elif word == [b"met"]:
+            zeros = [place for place, token in enumerate(tokens) if number_of(token) == 0]
+            cut = zeros[0] + 1 if zeros else len(tokens)
+            cube = self.rising_line(number, tokens[:cut])
+            self.met.append((number, Met(cube, self.rising_line(number, tokens[cut:]))))
+        else:
+            kind = self.saved.cubes if word == [b"cube"] else self.saved.pending
+            kind.append((number, self.rising_line(number, tokens)))
+
+    def rising_line(self, number, tokens):
+        """Literals whose variables rise, up to the 0 that ends the line."""
         literals = self.list_line(number, tokens, "Saved", -MOST_NAMED_VARIABLE, unended="Bad")
         variables = [abs(literal) for literal in literals]
         if any(before >= behind for before, behind in zip(variables, variables[1:])):
             raise Refused("SavedBad", number)
-        kind = self.saved.cubes if word == [b"cube"] else self.saved.pending
-        kind.append((number, literals))
+        return literals
 
     def header_line(self, number, tokens):
         if self.header is not None:
@@ -226,13 +244,26 @@ class Reader:
                 raise Refused("SavedBad", number)
         return Saved(*([literals for _, literals in lines] for lines in self.saved))
 
+    def met_cubes(self, variables, shown, under):
+        """What a met text has besides, or raises the refusal of its lowest line whose cube is not
+        over the shown variables, or lacks a given literal, or has no hidden literals with it."""
+        if self.met is None:
+            return None
+        shown, under = set(shown), set(under)
+        for number, met in self.met:
+            hidden = {abs(literal) for literal in met.hidden}
+            named = {abs(literal) for literal in met.cube} <= shown and under <= set(met.cube)
+            if not named or hidden & shown or any(name > variables for name in hidden):
+                raise Refused("SavedBad", number)
+        return [met for _, met in self.met]
+
     def end(self, last):
         """The formula, after a last line with this number; or raises the refusal of the end."""
         if self.header is None:
             raise Refused("NoHeader", last)
         if self.clause:
             raise Refused("Unfinished", last)
-        if self.saved is not None and not self.saved_ended:
+        if (self.saved, self.met) != (None, None) and not self.own_ended:
             raise Refused("SavedUnended", last)
         variables, said = self.header
         if len(self.clauses) != said:
@@ -247,7 +278,8 @@ class Reader:
             raise Refused("TooManyShown", last)
         under = self.under(shown)
         saved = self.saved_cubes(shown, under)
-        return Formula(variables, self.clauses, list(shown), under, saved)
+        met = self.met_cubes(variables, shown, under)
+        return Formula(variables, self.clauses, list(shown), under, saved, met)
 
 
 def read_or_raise(data, limits):

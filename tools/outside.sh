@@ -35,6 +35,7 @@ for words in '' 'list' 'enumerate enumerate' 'enumerate 5' '--help' 'enumerate -
     'enumerate --workers' 'enumerate --workers 0' 'enumerate --workers 17' 'enumerate --workers -1' \
     'enumerate --workers 2 --workers 2' 'enumerate --budget' 'enumerate --budget 0' 'enumerate --budget +3' \
     'enumerate --budget 4611686018427387905' 'enumerate --budget=1 --budget=1' 'enumerate --size 4' \
+    'check 1' 'check --workers 1' 'check check' \
     'drill' 'drill --size 0' 'drill --size 49' 'drill --size 4 --budget 3'; do
     # The words are to be split here.
     ./allsat $words < examples/first.cnf > "$work/out" 2> "$work/notes"; status=$?
@@ -104,6 +105,28 @@ s ALL'
 expect 'a drill of size 24' 0 '' 'f -3 4 -7 8 -11 12 -15 16 -19 20 -23 24 0
 s ALL'
 
+./allsat check < examples/met.cnf > "$work/out" 2> "$work/notes"; status=$?
+expect 'a right listing is checked' 0 '' 's RIGHT'
+
+sed 's/c p met 1 0 -2 0/c p met 1 0 2 0/' examples/met.cnf | ./allsat check > "$work/out" 2> "$work/notes"; status=$?
+expect 'a cube that does not meet a clause is named' 7 'allsat: check said no' 's NOTMET 2 2'
+
+sed 's/^c p end/c p met 1 0 -2 0\nc p end/' examples/met.cnf | ./allsat check > "$work/out" 2> "$work/notes"; status=$?
+expect 'two cubes that overlap are named' 7 'allsat: check said no' 's OVERLAP 2 3'
+
+./allsat check < examples/first.cnf > "$work/out" 2> "$work/notes"; status=$?
+expect 'a text that is no met text is not checked' 2 'allsat: input refused: 19 NoMetText line 1' ''
+
+./allsat check < "$work" > "$work/out" 2> "$work/notes"; status=$?
+expect 'a check of a directory is a read fault' 5 'allsat: read fault line 1' ''
+
+if [ -c /dev/full ]; then
+    ./allsat check < examples/met.cnf > /dev/full 2> "$work/notes"; status=$?
+    expect 'a full device as the output of a verdict is a write fault' 6 'allsat: write fault' -
+else
+    echo 'skipped: no /dev/full here'
+fi
+
 ./allsat enumerate < /dev/null > "$work/out" 2> "$work/notes"; status=$?
 expect 'the empty text is refused' 2 'allsat: input refused: 4 NoHeader line 1' ''
 
@@ -137,7 +160,8 @@ if command -v python3 > /dev/null; then
     tools/test_manual.py || wrong=1
     tools/test_checker.py || wrong=1
     tools/random_texts.py 300 || wrong=1
+    tools/test_scaling.py || wrong=1
 else
-    echo 'skipped: no python3 here to run the commands of README and to check random texts'
+    echo 'skipped: no python3 here to run the commands of README, to check random texts and to split runs'
 fi
 exit "$wrong"

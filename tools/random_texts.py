@@ -7,12 +7,12 @@ check.
 The texts say formulas of up to 9 variables and 14 clauses, with empty clauses, repeated literals
 and pairs among them, clauses that share lines and go on over lines, all five kinds of white
 space, comment, show and under lines anywhere, some with a % line, and some with the lines of a
-saved text. About half of them are damaged
-then: bytes, tokens and lines are changed, added and taken away. The texts of the table in
+saved text or of a met text. About half of them are damaged then: bytes, tokens and lines are changed, added and taken away. The texts of the table in
 tools/test_checker.py are tried first. Compared are the status, the note with the refusal's
 number, name and line, and the listing: its form, its order, and that it holds exactly the good
-assignments, none twice. Each text is run at once, and once more under a small budget, again and
-again from what the run before saved. It ends with status 0, or with status 1 and the first text
+assignments, none twice. Each text is run at once, once more by two or four workers, and under a
+small budget, again and again from what the run before saved; and its met lines are checked, which has to come to the
+checker's own verdict. It ends with status 0, or with status 1 and the first text
 on which program and checker differ.
 """
 import random
@@ -21,6 +21,7 @@ import sys
 from collections import Counter
 from pathlib import Path
 
+import check_met
 from check_listing import Tables, Wrong, check, check_form, extending, read_listing
 from dimacs import NUMBERS, Refused, read
 from test_checker import TABLE, text_of
@@ -47,6 +48,7 @@ c show 1 0
 c p open 2 1 0
 c p cube x
 c p end
+c p met 1 0 2 0
 c p weight 1 0.4 0
 c p weight -1 0.6 0
 c t pmc
@@ -61,7 +63,7 @@ FIRST_LINES += [b"c allsat saved1", b"call sat met"]
 HEADERS = [(1_000_000, 0), (1_000_001, 0), (1_000_001, 4_000_001), (3, 4_000_000), (3, 4_000_001)]
 HEADERS += [(8_192, 0), (8_193, 0)]
 RARE = ["TooManyVariables", "TooManyClauses", "TooManyLiterals", "TooManyShown", "TextTooLong"]
-NOTED = [name for name in NUMBERS if name not in RARE and name != "UnderUnended"]
+NOTED = [name for name in NUMBERS if name not in RARE + ["UnderUnended", "NoMetText"]]
 
 
 def random_bytes(choose, most):
@@ -134,6 +136,30 @@ def make_saved(choose, lines, variables):
         lines.append(b"c p end")
 
 
+def met_line(choose, variables):
+    """A met line, whose variables rise and are of the formula in most cases."""
+    most = variables + choose.choice([0, 0, 0, 0, 0, 1])
+    values = []
+    names = list(range(1, most + 1))
+    kept = choose.sample(names, choose.randint(0, len(names)))
+    cut = choose.randint(0, len(kept))
+    for part in (kept[:cut], kept[cut:]):
+        if choose.random() < 0.95:
+            part.sort()
+        values += [choose.choice([1, -1]) * variable for variable in part] + [0]
+    words = [b"c", b"p", b"met"]
+    return line_of(choose, words + [number(choose, value) for value in values])
+
+
+def make_met(choose, lines, variables):
+    """The lines become those of a met text, which in most cases has an end line."""
+    for _ in range(choose.choice([0, 1, 2, 3, 5])):
+        lines.insert(choose.randint(0, len(lines)), met_line(choose, variables))
+    lines.insert(0, b"c allsat met 1")
+    if choose.random() < 0.9:
+        lines.append(b"c p end")
+
+
 def random_clauses(choose, variables):
     clauses = []
     for _ in range(choose.randint(0, 14)):
@@ -180,6 +206,8 @@ def tidy_text(choose):
         lines.insert(0, choose.choice(FIRST_LINES))
     elif choose.random() < 0.2:
         make_saved(choose, lines, header[0])
+    elif choose.random() < 0.25:
+        make_met(choose, lines, header[0])
     if choose.random() < 0.15:
         lines.append(choose.choice([b"%", b"%0", b" % x", b"%%", b"%p cnf"]))
         lines += [random_bytes(choose, 9) for _ in range(choose.randint(0, 3))]
@@ -302,32 +330,43 @@ def difference(said, ran):
     return None
 
 
-def run_program(text, *options):
-    words = [PROGRAM, "enumerate", *options]
+def check_difference(text, ran):
+    """What a check does otherwise than the checker says, or None."""
+    status, out, note = check_met.check(text)
+    wanted = (status, *(line.encode() + b"\n" if line else b"" for line in (out, note)))
+    if (ran.returncode, ran.stdout, ran.stderr) == wanted:
+        return None
+    return "the checker's verdict: %d %s %s" % (status, out, note)
+
+
+def run_program(text, *options, command="enumerate"):
+    words = [PROGRAM, command, *options]
     return subprocess.run(words, input=text, capture_output=True, timeout=120)
 
 
-def run_in_steps(text, budget):
+def run_in_steps(text, budget, workers):
     """The last of a row of runs with a budget, each of which goes on from the text of the one
-    before."""
-    for _ in range(10_000):
-        ran = run_program(text, "--budget", str(budget))
+    before, by one worker and by several in turn."""
+    for turn in range(10_000):
+        ran = run_program(text, "--budget", str(budget), "--workers", str(workers if turn % 2 else 1))
         if (ran.returncode, ran.stderr) != (3, b"allsat: budget spent\n"):
             return ran
         text = ran.stdout
     raise SystemExit("wrong: a run with a budget of %d does not come to an end" % budget)
 
 
-def try_text(name, text, said, budget):
-    """Runs the program on the text, at once and in steps, and ends the script where it does
-    otherwise than it has to."""
-    for ran in (run_program(text), run_in_steps(text, budget)):
-        found = difference(said, ran)
+def try_text(name, text, said, budget, workers):
+    """Runs the program on the text, at once, by several workers and in steps, and ends the script
+    where it does otherwise than it has to."""
+    runs = (run_program(text), run_program(text, "--workers", str(workers)), run_in_steps(text, budget, workers))
+    tries = [(ran, difference(said, ran)) for ran in runs]
+    checked = run_program(text, command="check")
+    for ran, found in tries + [(checked, check_difference(text, checked))]:
         if found:
             print("wrong: %s: %r" % (name, text))
             print(found)
             answer = (ran.returncode, ran.stderr, ran.stdout)
-            print("the program: status %d, notes %r, listing %r" % answer)
+            print("the program: status %d, notes %r, output %r" % answer)
             sys.exit(1)
 
 
@@ -337,13 +376,14 @@ def main():
     build = [TOP / "allsat", "enumerate"]
     subprocess.run(build, input=b"p cnf 0 0\n", stdout=subprocess.DEVNULL, check=True)
     for lines, _ in TABLE:
-        try_text("a text of the table", text_of(lines), read(text_of(lines)), 1)
+        try_text("a text of the table", text_of(lines), read(text_of(lines)), 1, 2)
     kinds = Counter()
     for place in range(1, count + 1):
         choose = random.Random("%d of seed %d" % (place, seed))
         text = random_text(choose)
         said = read(text)
-        try_text("text %d of seed %d" % (place, seed), text, said, choose.choice([1, 2, 3, 7]))
+        name = "text %d of seed %d" % (place, seed)
+        try_text(name, text, said, choose.choice([1, 2, 3, 7]), choose.choice([2, 4]))
         kinds[said.name if isinstance(said, Refused) else None] += 1
     accepted = kinds.pop(None, 0)
     missing = [name for name in NOTED if name not in kinds]

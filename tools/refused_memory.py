@@ -2,7 +2,7 @@
 """Refuses memory to the program: in each run one allocation, or all from one on.
 
 tools/refused_memory.py [FORMULAS [SEED]], at the top. For each drawn formula the program runs plain, with
-budgets, and from a saved text, once for each allocation that it makes. Each run has to end with status 0
+budgets, from a saved text, and with two workers, once for each allocation that it makes. Each run has to end with status 0
 or 3 as a run with memory may, or with status 4, the note, and on standard output nothing or a saved text;
 a run from each saved text has to come to a right listing. Each wrong run is a line; the status is 1 then.
 It is not part of the gate: it needs a C compiler, for a library that stands before the allocator.
@@ -18,7 +18,10 @@ import tempfile
 # What ./allsat builds: the shell that starts it is not to be refused memory.
 PROGRAM = 'crates/allsat_cli/out/build/allsat'
 # So many runs in a row that end as one with memory does show that no allocation is left to refuse.
+# Two workers make other allocations in each run, and may cut the cubes otherwise.
 UNTOUCHED = 12
+UNTOUCHED_BY_TWO = 40
+TWO = ['--workers', '2']
 
 LIBRARY = r'''
 #define _GNU_SOURCE
@@ -121,13 +124,15 @@ class Trial:
     def refuse_each(self, text, options, on):
         """Refuses each allocation of a run in turn."""
         wanted = self.run(text, options)[:2]
+        two = options[:2] == TWO
         number = untouched = 0
-        while untouched < UNTOUCHED:
+        while untouched < (UNTOUCHED_BY_TWO if two else UNTOUCHED):
             number += 1
             self.runs += 1
             status, out, notes = self.run(text, options, number, on)
-            untouched = untouched + 1 if (status, out) == wanted else 0
-            if not untouched and not self.ends_well(status, out, notes):
+            same = status in (0, 3) if two else (status, out) == wanted
+            untouched = untouched + 1 if same else 0
+            if (two or not same) and not self.ends_well(status, out, notes):
                 self.wrong += 1
                 print(f'wrong: allocation {number} refused, options {options}: status {status} on {text!r}')
 
@@ -135,7 +140,8 @@ class Trial:
         cases = [(self.text, []), (self.text, ['--budget', '1']), (self.text, ['--budget', '3'])]
         status, saved, _ = self.run(self.text, ['--budget', '2'])
         if status == 3:
-            cases += [(saved, []), (saved, ['--budget', '1'])]
+            cases += [(saved, []), (saved, ['--budget', '1']), (saved, TWO)]
+        cases += [(self.text, TWO), (self.text, [*TWO, '--budget', '2'])]
         for text, options in cases:
             for on in (False, True):
                 self.refuse_each(text, options, on)

@@ -21,7 +21,7 @@ def manual_entries(manual, section):
 
 def words_of(text):
     """The commands and options that a text names."""
-    return set(re.findall(r'\b(?:enumerate|drill)\b', text)) | set(re.findall(r'--[a-z]+', text))
+    return set(re.findall(r'\b(?:enumerate|check|drill)\b', text)) | set(re.findall(r'--[a-z]+', text))
 
 
 def main():
