@@ -18,8 +18,10 @@ next_count shown k count now (i ∷ older) =
 
 -- The test tells whether a cube is within the prefix.
 pub record Tells (inside : List ℤ → Bool) (q : List ℤ) (c : List ℤ) : Type 0 where
-  pub within : inside c ≡ true → (t : ℕ → Bool) → holds t c ≡ true → holds t q ≡ true
-  pub other : inside c ≡ false → ((t : ℕ → Bool) → holds t c ≡ true → holds t q ≡ true) → ⊥
+  pub within : inside c ≡ true → (t : ℕ → Bool) → holds t c ≡ true →
+      holds t q ≡ true
+  pub other : inside c ≡ false →
+      ((t : ℕ → Bool) → holds t c ≡ true → holds t q ≡ true) → ⊥
 
 -- The prefix that the job keeps when its base rises by one.
 abbrev pub kept_prefix : (ℕ → Bool) → ℕ → List Item → List ℤ
@@ -28,9 +30,9 @@ kept_prefix shown base trail = front shown (root (suc base) trail)
 -- A job of the prefix q gave the prefix `given` away, with the cubes outside the prefix that it
 -- keeps and the leaves `gone` that they took. What went fits q, beside the kept prefix; the job
 -- goes on within this one, with the other cubes and the leaves since.
-pub record Gives (f : List (List ℤ)) (shown : ℕ → Bool) (n base : ℕ) (count : ℕ → ℕ) (q : List ℤ)
-    (trail : List Item) (found : List (List ℤ)) (leaves : ℕ) (inside : List ℤ → Bool)
-    (given : List ℤ) (gone : ℕ) : Type 0 where
+pub record Gives (f : List (List ℤ)) (shown : ℕ → Bool) (n base : ℕ) (count : ℕ → ℕ)
+    (q : List ℤ) (trail : List Item) (found : List (List ℤ)) (leaves : ℕ)
+    (inside : List ℤ → Bool) (given : List ℤ) (gone : ℕ) : Type 0 where
   pub first : untried shown base trail ≡ given ∷ untried shown (suc base) trail
   pub few : gone ≤ leaves
   pub fits : FitsWeighed f shown n q (filter (λ c. not (inside c)) found)
@@ -40,9 +42,9 @@ pub record Gives (f : List (List ℤ)) (shown : ℕ → Bool) (n base : ℕ) (co
 
 -- The same with cubes over the shown variables p: the given and the kept prefix, and the test
 -- whether a found cube is within the kept one.
-pub record GivesCubes (f : List (List ℤ)) (p : List ℕ) (n base : ℕ) (count : ℕ → ℕ) (q : List ℤ)
-    (trail : List Item) (found : List (List ℤ)) (leaves : ℕ) (given kept : List ℤ)
-    (gone : ℕ) : Type 0 where
+pub record GivesCubes (f : List (List ℤ)) (p : List ℕ) (n base : ℕ) (count : ℕ → ℕ)
+    (q : List ℤ) (trail : List Item) (found : List (List ℤ)) (leaves : ℕ)
+    (given kept : List ℤ) (gone : ℕ) : Type 0 where
   pub given_is : IsCube p given
   pub kept_is : IsCube p kept
   pub few : gone ≤ leaves

@@ -28,18 +28,18 @@ SteadyIsReasoned = (f : List (List ℤ)) (shown : ℕ → Bool) (trail : List It
 abbrev pub AssumeKeepsRunning : Type 0
 AssumeKeepsRunning =
     (f : List (List ℤ)) (shown : ℕ → Bool) (q : List ℤ) (trail : List Item) (l : ℤ) →
-    Running f shown 0 q trail [] → depth trail ≡ 0 → shown (nat_abs l) ≡ true → 0 < nat_abs l →
-    is_assigned (nat_abs l) trail ≡ false →
+    Running f shown 0 q trail [] → depth trail ≡ 0 → shown (nat_abs l) ≡ true →
+    0 < nat_abs l → is_assigned (nat_abs l) trail ≡ false →
     Running f shown 0 (q ++ l ∷ []) (assumed l ∷ trail) []
 
 -- A decision that a clause turns over keeps it running, where the clause is a reason for the
 -- negation under what stays.
 abbrev pub TurnKeepsRunning : Type 0
 TurnKeepsRunning =
-    (f : List (List ℤ)) (shown : ℕ → Bool) (base : ℕ) (p : List ℤ) (newer : List Item) (d : Item)
-    (older : List Item) (found : List (List ℤ)) (m : ℕ) (c : List ℤ) →
-    Running f shown base p (newer ++ d ∷ older) found → d.kind ≡ Decided → base < d.level →
-    m ≤ depth older → Follows f c →
+    (f : List (List ℤ)) (shown : ℕ → Bool) (base : ℕ) (p : List ℤ) (newer : List Item)
+    (d : Item) (older : List Item) (found : List (List ℤ)) (m : ℕ) (c : List ℤ) →
+    Running f shown base p (newer ++ d ∷ older) found → d.kind ≡ Decided →
+    base < d.level → m ≤ depth older → Follows f c →
     is_reason c (turned m c d) (back (depth older) (newer ++ d ∷ older)) ≡ true →
     Running f shown base p (turn_with (turned m c d) newer d older) found
 
@@ -47,13 +47,15 @@ TurnKeepsRunning =
 -- the decision.
 abbrev pub AssertingIsReason : Type 0
 AssertingIsReason =
-    (newer : List Item) (d : Item) (older : List Item) (m : ℕ) (c : List ℤ) → m ≤ depth older →
+    (newer : List Item) (d : Item) (older : List Item) (m : ℕ) (c : List ℤ) →
+    m ≤ depth older →
     list_all (λ l. int_eq l (neg_ℤ d.lit) || false_by m (newer ++ d ∷ older) l) c ≡ true →
     is_reason c (turned m c d) (back (depth older) (newer ++ d ∷ older)) ≡ true
 
 -- A job begins with the literals of its prefix assumed.
 abbrev pub BeginWorks : Type 0
-BeginWorks = (f : List (List ℤ)) (shown : ℕ → Bool) (n : ℕ) (count : ℕ → ℕ) (q : List ℤ) →
+BeginWorks =
+    (f : List (List ℤ)) (shown : ℕ → Bool) (n : ℕ) (count : ℕ → ℕ) (q : List ℤ) →
     rises_above 0 q ≡ true → over shown q ≡ true →
     Working f shown n 0 count q (assume_all q []) [] 0
 
@@ -68,18 +70,20 @@ StartWorks =
 
 -- The shown variables are as many as their list is long.
 abbrev pub CountsShown : Type 0
-CountsShown = (m : ℕ) (p : List ℕ) → IsStrictlyIncreasing p → All (λ v. (0 < v) × (v ≤ m)) p →
+CountsShown =
+    (m : ℕ) (p : List ℕ) → IsStrictlyIncreasing p → All (λ v. (0 < v) × (v ≤ m)) p →
     (shown_count m (is_among p) ≡ length p) × AreShownUpto m (is_among p)
 
 -- A decision keeps it working; the leaves so far become the count of its level.
 abbrev pub DecideKeepsWorking : Type 0
 DecideKeepsWorking =
-    (f : List (List ℤ)) (shown : ℕ → Bool) (m base : ℕ) (count next : ℕ → ℕ) (q : List ℤ)
-    (trail : List Item) (found : List (List ℤ)) (leaves : ℕ) (i : Item) →
+    (f : List (List ℤ)) (shown : ℕ → Bool) (m base : ℕ) (count next : ℕ → ℕ)
+    (q : List ℤ) (trail : List Item) (found : List (List ℤ)) (leaves : ℕ) (i : Item) →
     AreShownUpto m shown →
     Working f shown (shown_count m shown) base count q trail found leaves →
     i.kind ≡ Decided → i.level ≡ suc (depth trail) → 0 < nat_abs i.lit →
-    is_assigned (nat_abs i.lit) trail ≡ false → (seen shown i ≡ false → IsFull shown trail) →
+    is_assigned (nat_abs i.lit) trail ≡ false →
+    (seen shown i ≡ false → IsFull shown trail) →
     ((k : ℕ) → k ≤ depth trail → next k ≡ count k) → next i.level ≡ leaves →
     Working f shown (shown_count m shown) base next q (i ∷ trail) found leaves
 
@@ -89,8 +93,8 @@ ImplyKeepsWorking =
     (f : List (List ℤ)) (shown : ℕ → Bool) (n base : ℕ) (count : ℕ → ℕ) (q : List ℤ)
     (trail : List Item) (found : List (List ℤ)) (leaves : ℕ) (i : Item) (c : List ℤ) →
     Working f shown n base count q trail found leaves → i.kind ≡ Implied c →
-    i.level ≤ depth trail → 0 < nat_abs i.lit → is_assigned (nat_abs i.lit) trail ≡ false →
-    Follows f c → is_reason c i trail ≡ true →
+    i.level ≤ depth trail → 0 < nat_abs i.lit →
+    is_assigned (nat_abs i.lit) trail ≡ false → Follows f c → is_reason c i trail ≡ true →
     Working f shown n base count q (i ∷ trail) found leaves
 
 -- So does a conflict above the base; where its decision is shown, it may count as a leaf.
@@ -108,8 +112,8 @@ ConflictKeepsWorking =
 abbrev pub TurnKeepsWorking : Type 0
 TurnKeepsWorking =
     (f : List (List ℤ)) (shown : ℕ → Bool) (n base : ℕ) (count : ℕ → ℕ) (q : List ℤ)
-    (newer : List Item) (d : Item) (older : List Item) (found : List (List ℤ)) (leaves then m : ℕ)
-    (c : List ℤ) →
+    (newer : List Item) (d : Item) (older : List Item) (found : List (List ℤ))
+    (leaves then m : ℕ) (c : List ℤ) →
     Working f shown n base count q (newer ++ d ∷ older) found leaves → d.kind ≡ Decided →
     base < d.level → m ≤ depth older → Follows f c →
     is_reason c (turned m c d) (back (depth older) (newer ++ d ∷ older)) ≡ true →
@@ -123,7 +127,8 @@ ModelKeepsWorking =
     (newer : List Item) (d : Item) (older : List Item) (found : List (List ℤ)) (leaves then : ℕ)
     (c : List ℤ) →
     Working f shown n base count q (newer ++ d ∷ older) found leaves → d.kind ≡ Decided →
-    base < d.level → are_named f ≡ true → reaches shown d.level (newer ++ d ∷ older) ≡ true →
+    base < d.level → are_named f ≡ true →
+    reaches shown d.level (newer ++ d ∷ older) ≡ true →
     keeps_flips shown d.level (newer ++ d ∷ older) ≡ true →
     list_all (is_met shown d.level (newer ++ d ∷ older)) f ≡ true →
     CubeOf shown d.level (newer ++ d ∷ older) c → leaves ≤ then → then ≤ leaves + 1 →
@@ -136,7 +141,8 @@ TurnLeavesLess =
     (f : List (List ℤ)) (shown : ℕ → Bool) (n base : ℕ) (newer : List Item) (d e : Item)
     (older : List Item) →
     Steady f shown (newer ++ d ∷ older) → d.kind ≡ Decided → base < d.level →
-    is_decided e.kind ≡ false → is_implied e.kind ≡ false → nat_abs e.lit ≡ nat_abs d.lit →
+    is_decided e.kind ≡ false → is_implied e.kind ≡ false →
+    nat_abs e.lit ≡ nat_abs d.lit →
     weights n (left_open shown base (turn_with e newer d older)) + cond (seen shown d) 1 0
     ≤ weights n (left_open shown base (newer ++ d ∷ older))
 
@@ -151,8 +157,8 @@ WorkingFits =
 -- After a conflict at the base what was found does so alone, with this leaf too.
 abbrev pub ConflictEndsWorking : Type 0
 ConflictEndsWorking =
-    (f : List (List ℤ)) (shown : ℕ → Bool) (n base : ℕ) (count : ℕ → ℕ) (q : List ℤ) (k : ℕ)
-    (c : List ℤ) (trail : List Item) (found : List (List ℤ)) (leaves then : ℕ) →
+    (f : List (List ℤ)) (shown : ℕ → Bool) (n base : ℕ) (count : ℕ → ℕ) (q : List ℤ)
+    (k : ℕ) (c : List ℤ) (trail : List Item) (found : List (List ℤ)) (leaves then : ℕ) →
     Working f shown n base count q trail found leaves → k ≤ base → Follows f c →
     is_false_upto k trail c ≡ true → then ≤ leaves + 1 →
     FitsWeighed f shown n q found [] then
@@ -193,13 +199,14 @@ GiveKeepsWorking =
 
 -- The leaves that go with it are the count of the level after that, where this has a shown
 -- decision, and else those of now.
-pub record ReadsNextCount (f : List (List ℤ)) (shown : ℕ → Bool) (k : ℕ) (count : ℕ → ℕ)
-    (now : ℕ) : Type 0 where
+pub record ReadsNextCount (f : List (List ℤ)) (shown : ℕ → Bool) (k : ℕ)
+    (count : ℕ → ℕ) (now : ℕ) : Type 0 where
   pub none : (trail : List Item) → Steady f shown trail → depth trail ≤ k →
       next_count shown k count now trail ≡ now
   pub shows : (newer : List Item) (d : Item) (older : List Item) →
       Steady f shown (newer ++ d ∷ older) → d.kind ≡ Decided → d.level ≡ suc k →
-      seen shown d ≡ true → next_count shown k count now (newer ++ d ∷ older) ≡ count (suc k)
+      seen shown d ≡ true →
+      next_count shown k count now (newer ++ d ∷ older) ≡ count (suc k)
   pub hides : (newer : List Item) (d : Item) (older : List Item) →
       Steady f shown (newer ++ d ∷ older) → d.kind ≡ Decided → d.level ≡ suc k →
       seen shown d ≡ false → next_count shown k count now (newer ++ d ∷ older) ≡ now
@@ -235,8 +242,10 @@ NoneUntriedIsRead =
 -- A least level above the base, at which a cube is enough, is that of some shown item.
 abbrev pub LeastReachesAbove : Type 0
 LeastReachesAbove =
-    (f : List (List ℤ)) (shown : ℕ → Bool) (trail : List Item) (base level : ℕ) → base < level →
-    ((b : ℕ) → (nat_le base b && (keeps_flips shown b trail && list_all (is_met shown b trail) f))
+    (f : List (List ℤ)) (shown : ℕ → Bool) (trail : List Item) (base level : ℕ) →
+    base < level →
+    ((b : ℕ) →
+    (nat_le base b && (keeps_flips shown b trail && list_all (is_met shown b trail) f))
     ≡ nat_le level b) →
     reaches shown level trail ≡ true
 

@@ -30,7 +30,8 @@ AreShownUpto m shown = (v : ℕ) → shown v ≡ true → (0 < v) × (v ≤ m)
 -- open decision what is left open from there on (the other side of the decision, what weighs w
 -- below it) and the leaves since it was made are no more than the prefix before it held. Here
 -- `count k` is the number of leaves when the decision of level k was made, and `now` that of now.
-abbrev pub weighs : (ℕ → Bool) → ℕ → ℕ → (ℕ → ℕ) → List ℤ → ℕ → ℕ → List Item → Bool
+abbrev pub weighs : (ℕ → Bool) → ℕ → ℕ → (ℕ → ℕ) → List ℤ →
+    ℕ → ℕ → List Item → Bool
 weighs shown n base count p w now [] = nat_le (w + now) (weight n p)
 weighs shown n base count p w now (i ∷ older) =
     cond (is_open shown base i)

@@ -42,20 +42,21 @@ ImplyKeepsRunning =
 -- hidden, is turned over.
 abbrev pub ConflictKeepsRunning : Type 0
 ConflictKeepsRunning =
-    (f : List (List ℤ)) (shown : ℕ → Bool) (base : ℕ) (p : List ℤ) (newer : List Item) (d : Item)
-    (older : List Item) (found : List (List ℤ)) (c : List ℤ) →
-    Running f shown base p (newer ++ d ∷ older) found → d.kind ≡ Decided → base < d.level →
-    Follows f c → is_false_upto d.level (newer ++ d ∷ older) c ≡ true →
+    (f : List (List ℤ)) (shown : ℕ → Bool) (base : ℕ) (p : List ℤ) (newer : List Item)
+    (d : Item) (older : List Item) (found : List (List ℤ)) (c : List ℤ) →
+    Running f shown base p (newer ++ d ∷ older) found → d.kind ≡ Decided →
+    base < d.level → Follows f c → is_false_upto d.level (newer ++ d ∷ older) c ≡ true →
     Running f shown base p (turn_over newer d older) found
 
 -- A found model keeps it running: its cube needs the shown items up to the level of d, and d is
 -- turned over.
 abbrev pub ModelKeepsRunning : Type 0
 ModelKeepsRunning =
-    (f : List (List ℤ)) (shown : ℕ → Bool) (base : ℕ) (p : List ℤ) (newer : List Item) (d : Item)
-    (older : List Item) (found : List (List ℤ)) (c : List ℤ) →
-    Running f shown base p (newer ++ d ∷ older) found → d.kind ≡ Decided → base < d.level →
-    are_named f ≡ true → reaches shown d.level (newer ++ d ∷ older) ≡ true →
+    (f : List (List ℤ)) (shown : ℕ → Bool) (base : ℕ) (p : List ℤ) (newer : List Item)
+    (d : Item) (older : List Item) (found : List (List ℤ)) (c : List ℤ) →
+    Running f shown base p (newer ++ d ∷ older) found → d.kind ≡ Decided →
+    base < d.level → are_named f ≡ true →
+    reaches shown d.level (newer ++ d ∷ older) ≡ true →
     keeps_flips shown d.level (newer ++ d ∷ older) ≡ true →
     list_all (is_met shown d.level (newer ++ d ∷ older)) f ≡ true →
     CubeOf shown d.level (newer ++ d ∷ older) c →
@@ -64,37 +65,40 @@ ModelKeepsRunning =
 -- A conflict at the base closes the search.
 abbrev pub ConflictCloses : Type 0
 ConflictCloses =
-    (f : List (List ℤ)) (shown : ℕ → Bool) (base : ℕ) (p : List ℤ) (k : ℕ) (c : List ℤ)
-    (trail : List Item) (found : List (List ℤ)) →
-    Running f shown base p trail found → k ≤ base → Follows f c → is_false_upto k trail c ≡ true →
-    Closed f shown p found
+    (f : List (List ℤ)) (shown : ℕ → Bool) (base : ℕ) (p : List ℤ) (k : ℕ)
+    (c : List ℤ) (trail : List Item) (found : List (List ℤ)) →
+    Running f shown base p trail found → k ≤ base → Follows f c →
+    is_false_upto k trail c ≡ true → Closed f shown p found
 
 -- A model whose cube needs no level above the base closes it.
 abbrev pub ModelCloses : Type 0
 ModelCloses =
     (f : List (List ℤ)) (shown : ℕ → Bool) (base : ℕ) (p : List ℤ) (c : List ℤ)
     (trail : List Item) (found : List (List ℤ)) →
-    Running f shown base p trail found → are_named f ≡ true → keeps_flips shown base trail ≡ true →
-    list_all (is_met shown base trail) f ≡ true → CubeOf shown base trail c →
-    Closed f shown p (found ++ c ∷ [])
+    Running f shown base p trail found → are_named f ≡ true →
+    keeps_flips shown base trail ≡ true → list_all (is_met shown base trail) f ≡ true →
+    CubeOf shown base trail c → Closed f shown p (found ++ c ∷ [])
 
 -- A cube that meets each clause, with the hidden literals of the trail, holds good assignments
 -- alone.
 abbrev pub MetCubeIsGood : Type 0
-MetCubeIsGood = (f : List (List ℤ)) (shown : ℕ → Bool) (b : ℕ) (trail : List Item) (c : List ℤ) →
+MetCubeIsGood =
+    (f : List (List ℤ)) (shown : ℕ → Bool) (b : ℕ) (trail : List Item) (c : List ℤ) →
     Steady f shown trail → are_named f ≡ true → list_all (is_met shown b trail) f ≡ true →
     CubeOf shown b trail c → (t : ℕ → Bool) → holds t c ≡ true → Good f shown t
 
 -- A closed search of a prefix found each good assignment in it in exactly one cube, and no other in
 -- any.
 abbrev pub ClosedIsExact : Type 0
-ClosedIsExact = (f : List (List ℤ)) (shown : ℕ → Bool) (p : List ℤ) (found : List (List ℤ)) →
+ClosedIsExact =
+    (f : List (List ℤ)) (shown : ℕ → Bool) (p : List ℤ) (found : List (List ℤ)) →
     Closed f shown p found → (t : ℕ → Bool) →
     (hits t found ≤ 1) × ((Good f shown t × (holds t p ≡ true)) ↔ (0 < hits t found))
 
 -- What a closed search of the given literals found is the right list, once it is sorted.
 abbrev pub ClosedIsRight : Type 0
-ClosedIsRight = (f : List (List ℤ)) (p : List ℕ) (u : List ℤ) (found cubes : List (List ℤ)) →
+ClosedIsRight =
+    (f : List (List ℤ)) (p : List ℕ) (u : List ℤ) (found cubes : List (List ℤ)) →
     IsStrictlyIncreasing p → IsCube p u → Closed f (is_among p) u found →
     All (IsCube p) found → IsPermutation found cubes → IsSorted cube_order cubes →
     IsRightList f p u cubes
@@ -109,5 +113,6 @@ RunningFits =
 
 -- Once it is closed, the cubes found do so alone.
 abbrev pub ClosedFits : Type 0
-ClosedFits = (f : List (List ℤ)) (shown : ℕ → Bool) (p : List ℤ) (found : List (List ℤ)) →
+ClosedFits =
+    (f : List (List ℤ)) (shown : ℕ → Bool) (p : List ℤ) (found : List (List ℤ)) →
     Closed f shown p found → Fits f shown p found []

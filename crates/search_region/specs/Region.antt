@@ -49,16 +49,18 @@ left_open shown base trail = untried shown base trail ++ front shown trail ∷ [
 
 -- The search of the prefix p: the cubes found hold good assignments alone, and each solution in p
 -- is found, once, just where the trail has left it behind.
-pub record Region (f : List (List ℤ)) (shown : ℕ → Bool) (base : ℕ) (p : List ℤ) (trail : List Item)
-    (found : List (List ℤ)) : Type 0 where
+pub record Region (f : List (List ℤ)) (shown : ℕ → Bool) (base : ℕ) (p : List ℤ)
+    (trail : List Item) (found : List (List ℤ)) : Type 0 where
   pub based : base ≤ depth trail
   pub found_over : list_all (over shown) found ≡ true
   pub prefix_over : over shown p ≡ true
   pub good : (t : ℕ → Bool) → 0 < hits t found → Good f shown t
   pub exact : (t : ℕ → Bool) → sat f t ≡ true →
       hits t found ≡ cond (holds t p && cut shown t trail) 1 0
-  pub below : (t : ℕ → Bool) → holds t (front shown (root base trail)) ≡ true → holds t p ≡ true
-  pub above : (t : ℕ → Bool) → holds t p ≡ true → agrees (chosen_upto base) t trail ≡ true
+  pub below : (t : ℕ → Bool) → holds t (front shown (root base trail)) ≡ true →
+      holds t p ≡ true
+  pub above : (t : ℕ → Bool) → holds t p ≡ true →
+      agrees (chosen_upto base) t trail ≡ true
 
 -- The search of p is done: each solution in p is found, once.
 pub record Closed (f : List (List ℤ)) (shown : ℕ → Bool) (p : List ℤ)

@@ -14,7 +14,8 @@ IsFull shown trail = (v : ℕ) → shown v ≡ true → is_assigned v trail ≡ 
 
 -- No solution that makes the older items without a clause true makes this one false.
 abbrev pub NoneBeside : List (List ℤ) → Item → List Item → Type 0
-NoneBeside f i older = (t : ℕ → Bool) → sat f t ≡ true → agrees branches t older ≡ true →
+NoneBeside f i older =
+    (t : ℕ → Bool) → sat f t ≡ true → agrees branches t older ≡ true →
     lit_true t i.lit ≡ true
 
 -- An assumed literal is shown, of level 0, and older than each decision.
@@ -37,7 +38,8 @@ pub record FineFlipped (f : List (List ℤ)) (shown : ℕ → Bool) (i : Item)
 
 -- A forced literal is of at most the current level, and has a clause that follows from the formula
 -- as its reason.
-pub record FineForced (f : List (List ℤ)) (c : List ℤ) (i : Item) (older : List Item) : Type 0 where
+pub record FineForced (f : List (List ℤ)) (c : List ℤ) (i : Item)
+    (older : List Item) : Type 0 where
   pub bound : i.level ≤ depth older
   pub follows : Follows f c
   pub reason : is_reason c i older ≡ true
@@ -51,7 +53,8 @@ FineKind f shown (Turned c) i older = FineForced f c i older
 FineKind f shown (Implied c) i older = FineForced f c i older
 
 -- An item is a literal of a variable that wasn't assigned before, and fine by its kind.
-pub record Fine (f : List (List ℤ)) (shown : ℕ → Bool) (i : Item) (older : List Item) : Type 0 where
+pub record Fine (f : List (List ℤ)) (shown : ℕ → Bool) (i : Item)
+    (older : List Item) : Type 0 where
   pub named : 0 < nat_abs i.lit
   pub fresh : is_assigned (nat_abs i.lit) older ≡ false
   pub kinds : FineKind f shown i.kind i older

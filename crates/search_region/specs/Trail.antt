@@ -110,8 +110,8 @@ agrees pick t trail = list_all (λ i. not (pick i) || lit_true t i.lit) trail
 abbrev pub flip : ℕ → Item → Item
 flip k d = record { lit = neg_ℤ d.lit; level = k; kind = Flipped }
 
--- The trail newer ++ d ∷ older after the item e took the place of its decision d: what is of older
--- levels stays, and e joins it.
+-- The trail newer ++ d ∷ older after the item e took the place of its decision d: what is of
+-- older levels stays, and e joins it.
 abbrev pub turn_with : Item → List Item → Item → List Item → List Item
 turn_with e newer d older = e ∷ back (depth older) (newer ++ d ∷ older)
 

@@ -15,8 +15,8 @@ rest_is_false s c l = list_all (λ m. int_eq m l || s (neg_ℤ m)) c
 -- Each clause is taken as the set of its literals.
 pub record IsClosed (g : List (List ℤ)) (a : List ℤ) (s : ℤ → Bool) : Type 0 where
   pub start : (l : ℤ) → has_literal a l ≡ true → s l ≡ true
-  pub units : (c : List ℤ) (l : ℤ) → Contains g c → has_pair c ≡ false → has_literal c l ≡ true →
-      rest_is_false s c l ≡ true → s l ≡ true
+  pub units : (c : List ℤ) (l : ℤ) → Contains g c → has_pair c ≡ false →
+      has_literal c l ≡ true → rest_is_false s c l ≡ true → s l ≡ true
 
 -- The closure is the least closed set: a literal is in it where it is in every closed set.
 abbrev pub InClosure : List (List ℤ) → List ℤ → ℤ → Type 0
