@@ -2,7 +2,7 @@
 """Builds the program: tools/build.py PROGRAM puts it at this path.
 
 Everything is proved before it is compiled. Crates that do not stand on each other are proved at the same
-time, one a processor, in a copy of the sources that holds just the crates of the program. Standard error
+time, by all processors, in a copy of the sources that holds just the crates of the program. Standard error
 gets a line for each crate that is done, and the path of the log where something fails. While one call
 builds, a second one waits for it.
 """
@@ -14,11 +14,15 @@ import shutil
 import subprocess
 import sys
 import time
+from concurrent.futures import FIRST_COMPLETED, ThreadPoolExecutor, wait
 
 ROOT = pathlib.Path(__file__).resolve().parent.parent
 CLI = "allsat_cli"
 # What one check may take, in bytes, so that no more run at a time than memory holds.
 MEMORY_OF_A_CHECK = 2_500_000_000
+# A check by more jobs than these gains nothing.
+MOST_JOBS = 4
+SOURCES = (".rt", ".antt")
 
 
 def say(text):
@@ -81,20 +85,50 @@ def lay_out(place, names, lines):
     (place / "crates.txt").write_text("".join(f"{lines[it]}\n" for it in names), encoding="utf-8")
 
 
-def prove(place, names, log):
-    """Proves the crates side by side, and says which are done. Answers whether all are."""
-    command = ["rt", "all", "check", "--jobs", str(processors())]
-    left = list(names)
-    with subprocess.Popen(
-        command, cwd=place, stdin=subprocess.DEVNULL, stdout=subprocess.PIPE, stderr=subprocess.STDOUT, text=True
-    ) as run:
-        for line in run.stdout:
-            log.write(line)
-            name = line.removeprefix("== ").strip()
-            if line.startswith("== ") and name in left:
-                left.remove(name)
-                say(f"{name} is proved, {len(left)} of {len(names)} crates are left")
-    return run.wait() == 0
+def weights_of_chains(place, names, below):
+    """For each crate its bytes of sources and those of the heaviest chain of crates that stand on it."""
+    weights = {}
+    for name in reversed(names):
+        bytes_here = sum(it.stat().st_size for it in (place / "crates" / name).rglob("*") if it.suffix in SOURCES)
+        behind = (weights[it] for it in weights if name in below[it])
+        weights[name] = bytes_here + max(behind, default=0)
+    return weights
+
+
+def prove_one(place, name, jobs, log):
+    """Proves a crate by so many jobs, over what those below it kept. Answers whether it is proved."""
+    run = subprocess.run(
+        ["rt", "check", "--jobs", str(jobs)], cwd=place / "crates" / name,
+        stdin=subprocess.DEVNULL, stdout=subprocess.PIPE, stderr=subprocess.STDOUT, text=True, check=False
+    )
+    log.write(f"== {name}\n{run.stdout}")
+    log.flush()
+    return run.returncode == 0
+
+
+def prove(place, names, below, log):
+    """Proves the crates side by side, each once those below it are, and first those on which the heaviest
+    chains stand; processors that no crate waits for go to the ones that begin. Says which are done. Answers
+    whether all are."""
+    weights, free = weights_of_chains(place, names, below), processors()
+    waiting, running, proved = sorted(names, key=lambda name: -weights[name]), {}, set()
+    with ThreadPoolExecutor(free) as pool:
+        while len(proved) < len(names):
+            ready = [it for it in waiting if proved.issuperset(set(below[it]) & set(names))]
+            for at, name in enumerate(ready[:free]):
+                jobs = max(1, min(MOST_JOBS, free // (len(ready) - at)))
+                waiting.remove(name)
+                running[pool.submit(prove_one, place, name, jobs, log)] = name, jobs
+                free -= jobs
+            for done in wait(running, return_when=FIRST_COMPLETED).done:
+                name, jobs = running.pop(done)
+                free += jobs
+                if not done.result():
+                    say(f"{name} is not proved; waiting for what else was begun")
+                    return False
+                proved.add(name)
+                say(f"{name} is proved, {len(names) - len(proved)} of {len(names)} crates are left")
+    return True
 
 
 def compile_program(place, log):
@@ -123,7 +157,7 @@ def build(program):
         begun = time.time_ns()
         lay_out(place, names, lines)
         with open(place / "build.log", "w", encoding="utf-8") as log:
-            if not prove(place, names, log):
+            if not prove(place, names, below, log):
                 return False
             say("all is proved; compiling")
             log.flush()
