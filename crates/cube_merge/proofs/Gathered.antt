@@ -1,9 +1,9 @@
 -- The names of all parts, after a part has changed.
-use Rattle.std.proofs.Common.{◌≡◌, ℕ, zero, suc, ◌+◌, ◌<◌, List, [], ◌∷◌, ◌++◌, replicate, length, length-append, get_or, set, Vec, Global, refl, sym, ap, subst, ◌∙◌, arith}
+use Rattle.std.proofs.Common.{◌≡◌, ℕ, zero, suc, ◌+◌, ◌<◌, List, [], ◌∷◌, ◌++◌, replicate, length, length-append, get_or, set, Vec, Global, append_assoc, refl, sym, ap, subst, subst₂, ◌∙◌, arith}
 use Rattle.std.specs.List.{All}
 use Rattle.std.specs.List.Sorted.{IsPermutation}
 use Rattle.std.proofs.lemmas.List.Elements.{All-nil, All-head, All-tail, All-append}
-use Rattle.std.proofs.lemmas.List.Sorted.{IsPermutation-append_left, IsPermutation-append_right, IsPermutation-to_front, IsPermutation-middle, IsPermutation-trans, length_permutation}
+use Rattle.std.proofs.lemmas.List.Sorted.{IsPermutation-append_left, IsPermutation-append_right, IsPermutation-append_comm, IsPermutation-to_front, IsPermutation-middle, IsPermutation-trans, length_permutation}
 use Rattle.cube_merge.specs.declared.name.CubeName.{CubeName}
 use Rattle.std.proofs.lemmas.List.{map-set, get_or-map, set-get_or, length-map}
 use Rattle.cube_merge.specs.Parts.{all_names, part_lists}
@@ -36,18 +36,21 @@ none_gathered [] all = refl
 none_gathered (p ∷ parts) all =
     ap (λ x. x ++ all_names parts) (All-head (λ part. part ≡ []) p parts all) ∙ none_gathered parts (All-tail (λ part. part ≡ []) p parts all)
 
+-- names that a part gets come to those of all parts
+pub names_added : (parts : List (List CubeName)) (at : ℕ) (more : List CubeName) → at < length parts → IsPermutation (all_names parts ++ more) (all_names (set parts at (get_or parts at [] ++ more)))
+names_added [] at more inside = absurd (omega arith)
+names_added (p ∷ parts) zero more inside =
+    subst₂ IsPermutation (sym (append_assoc p (all_names parts) more)) (sym (append_assoc p more (all_names parts)))
+    (IsPermutation-append_right p (all_names parts ++ more) (more ++ all_names parts) (IsPermutation-append_comm (all_names parts) more))
+names_added (p ∷ parts) (suc at) more inside =
+    let rest = all_names (set parts at (get_or parts at [] ++ more)) in
+    subst (λ x. IsPermutation x (p ++ rest)) (sym (append_assoc p (all_names parts) more))
+    (IsPermutation-append_right p (all_names parts ++ more) rest (names_added parts at more (omega arith)))
+
 pub gathered_set : (parts : List (List CubeName)) (at : ℕ) (more : List CubeName) → at < length parts → length (all_names (set parts at (get_or parts at [] ++ more))) ≡ length (all_names parts) + length more
-gathered_set [] at more inside = absurd (omega arith)
-gathered_set (p ∷ parts) zero more inside =
-    let one = length-append (p ++ more) (all_names parts) in
-    let two = length-append p more in
-    let all = length-append p (all_names parts) in
-    omega arith
-gathered_set (p ∷ parts) (suc at) more inside =
-    let one = length-append p (all_names (set parts at (get_or parts at [] ++ more))) in
-    let all = length-append p (all_names parts) in
-    let rest = gathered_set parts at more (omega arith) in
-    omega arith
+gathered_set parts at more inside =
+    length_permutation (all_names parts ++ more) (all_names (set parts at (get_or parts at [] ++ more))) (names_added parts at more inside)
+    ∙ length-append (all_names parts) more
 
 pub lists_set : (parts : List (Vec CubeName Global)) (at : ℕ) (part : Vec CubeName Global) (names : List CubeName) → part.items ≡ names → part_lists (set parts at part) ≡ set (part_lists parts) at names
 lists_set parts at part names same = map-set (λ (x : Vec CubeName Global). x.items) parts at part ∙ ap (set (part_lists parts) at) same

@@ -1,6 +1,6 @@
 mod Checked
 mod Fronts
-mod Gathered
+pub mod Gathered
 mod Merged
 mod Named
 mod Ranks

@@ -44,7 +44,7 @@ module _ (subject : Subject) (saved : Option Saved) where
 
 -- ---- slots and their prefixes
 
-free_parts : (prefixes : Number → List ℤ) (j i : ℕ) (cs : List (List ℤ)) → ((m : ℕ) → m < length cs → prefixes (number_at j (i + m)) ≡ get_or cs m []) → live_of prefixes (free_slots j i (length cs)) ≡ numbered j i cs
+pub free_parts : (prefixes : Number → List ℤ) (j i : ℕ) (cs : List (List ℤ)) → ((m : ℕ) → m < length cs → prefixes (number_at j (i + m)) ≡ get_or cs m []) → live_of prefixes (free_slots j i (length cs)) ≡ numbered j i cs
 free_parts prefixes j i [] names = refl
 free_parts prefixes j i (c ∷ cs) names =
     ap₂ (λ x xs. record { number = number_at j i; prefix = x; holder = None } ∷ xs)

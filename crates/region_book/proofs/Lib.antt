@@ -1,4 +1,5 @@
 pub mod Arranging
+mod Ascending
 mod Begin
 mod Booked
 mod Found

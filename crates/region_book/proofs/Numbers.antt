@@ -155,7 +155,7 @@ reported_numbers m k n o (Some q) s are =
           (All-append (λ r. r.number.place ≤ suc m) (numbered (suc m) 0 o.rest) (kept_part (suc m) (length o.rest) k o.kept) (numbered_placed (suc m) 0 o.rest) (kept_placed (suc m) (length o.rest) k o.kept));
     }
 
-step_numbers : (m : ℕ) (e : Event) (s : BookState) → AreNumbered s.pending m → AreNumbered (step (suc m) e s).pending (suc m)
+pub step_numbers : (m : ℕ) (e : Event) (s : BookState) → AreNumbered s.pending m → AreNumbered (step (suc m) e s).pending (suc m)
 step_numbers m (Take k n) s are =
     later (edit_first (is_free n) (taken_by k) s.pending) m (edited_numbers (is_free n) (taken_by k) s.pending m (λ x q. same_number x q (record q { holder = Some k }) refl)
     (λ q low. All-cons (λ r. r.number.place ≤ m) (record q { holder = Some k }) [] low (All-nil (λ r. r.number.place ≤ m))) are)
@@ -174,12 +174,15 @@ events_number m (e ∷ es) s are = rw (one_more (length es)) (events_number (suc
     one_more : (x : ℕ) → suc x + m ≡ x + suc m
     one_more x = omega arith
 
+pub start_numbers : (cubes prefixes : List (List ℤ)) → AreNumbered (start_from cubes prefixes).pending 0
+start_numbers cubes prefixes = record {
+  once = λ n. numbered_once n 0 0 prefixes;
+  placed = numbered_placed 0 0 prefixes;
+}
+
 pub numbers_are_distinct : (cubes prefixes : List (List ℤ)) (events : List Event) → AreNumbered (steps_from 1 events (start_from cubes prefixes)).pending (length events)
 numbers_are_distinct cubes prefixes events =
-    rw (sym none_more) (events_number 0 events (start_from cubes prefixes) (record {
-      once = λ n. numbered_once n 0 0 prefixes;
-      placed = numbered_placed 0 0 prefixes;
-    }))
+    rw (sym none_more) (events_number 0 events (start_from cubes prefixes) (start_numbers cubes prefixes))
   where
     none_more : length events + 0 ≡ length events
     none_more = omega arith

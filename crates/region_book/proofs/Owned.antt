@@ -1,16 +1,15 @@
 -- What one pass holds: after events of others, and after each of its own.
-use Rattle.std.proofs.Common.{◌≡◌, ◌≢◌, ℕ, suc, ◌+◌, Bool, true, false, ◌&&◌, cond, is_none, nat_eq, List, [], ◌∷◌, ◌++◌, filter, length, length-append, ℤ, Option, Some, None, refl, sym, ap, ap₂, ◌∙◌, inl, inr, arith}
+use Rattle.std.proofs.Common.{◌≡◌, ℕ, suc, ◌+◌, Bool, true, is_none, nat_eq, List, [], ◌∷◌, ◌++◌, filter, length, length-append, ℤ, Option, Some, None, refl, sym, ap, ap₂, ◌∙◌, inl, inr, arith}
 use Rattle.std.specs.List.{find}
-use Rattle.std.proofs.lemmas.Bool.{cases_Bool, and_parts, both_ways, eqb-true}
+use Rattle.std.proofs.lemmas.Bool.{cases_Bool, and_parts, eqb-true}
 use Rattle.std.proofs.lemmas.Cmp.{nat_eq_equiv}
-use Rattle.std.proofs.lemmas.List.{append-nil, nil_from_length}
+use Rattle.std.proofs.lemmas.List.{nil_from_length}
 use Rattle.std.proofs.lemmas.List.Elements.{filter-append}
 use Rattle.prefix_jobs.specs.declared.number.Number.{Number}
 use Rattle.prefix_jobs.specs.declared.outcome.Outcome.{Outcome}
 use Rattle.region_book.specs.declared.event.Event.{Event}
-use Rattle.region_book.specs.declared.event.Event.TheVariants.{Take, Report, Release}
 use Rattle.region_book.specs.Machine.{Pending}
-use Rattle.region_book.specs.Machine.{BookState, has_number, is_pass, is_free, is_held_by, held_by, edit_first, taken_by, let_go, taken_out, numbered, kept_part, parts_of, reported, step, steps_from, FitsFound, pass_of}
+use Rattle.region_book.specs.Machine.{BookState, has_number, is_pass, is_free, is_held_by, held_by, edit_first, taken_by, taken_out, numbered, kept_part, parts_of, reported, step, steps_from, FitsFound, pass_of}
 use Rattle.region_book.specs.Pages.{prefix_of}
 use Rattle.region_book.specs.Starts.{start_of}
 use Rattle.region_book.specs.Books.{BookView, state_of, with_event}

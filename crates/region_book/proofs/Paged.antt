@@ -1,8 +1,10 @@
 -- What each call writes on the pages is what its event does.
-use Rattle.std.proofs.Common.{◌≡◌, ◌≢◌, ℕ, suc, ◌+◌, ◌<◌, ◌≤◌, ◌^◌, min, List, [], ◌∷◌, ◌++◌, filter, map, length, length-set, get_or, set, ℤ, Option, Some, None, vec_capacity, refl, sym, ap, ap₂, subst, ◌∙◌, arith}
+use Rattle.std.proofs.Common.{◌≡◌, ◌≢◌, ℕ, suc, ◌+◌, ◌<◌, ◌≤◌, ◌^◌, min, List, [], ◌∷◌, ◌++◌, filter, map, length, length-set, get_or, set, ℤ, Option, Some, None, vec_capacity, refl, sym, ap, ap₂, subst, subst₂, ◌∙◌, arith}
 use Rattle.std.specs.List.{All, find}
 use Rattle.std.proofs.lemmas.List.{length_push, append-nil}
+use Rattle.std.specs.List.Sorted.{IsPermutation}
 use Rattle.std.proofs.lemmas.List.Elements.{All-weaker, All-append, All-set}
+use Rattle.std.proofs.lemmas.List.Sorted.{IsPermutation-refl, All-permutation}
 use Rattle.prefix_jobs.specs.declared.number.Number.{Number}
 use Rattle.prefix_jobs.specs.declared.outcome.Outcome.{Outcome}
 use Rattle.region_book.specs.declared.event.Event.TheVariants.{Take, Report, Release}
@@ -11,7 +13,9 @@ use Rattle.region_book.specs.declared.slot.Slot.{Slot}
 use Rattle.region_book.specs.declared.slot.Standing.{Standing}
 use Rattle.region_book.specs.declared.slot.Standing.TheVariants.{Free, Held, Gone}
 use Rattle.region_book.specs.Machine.{BookState, Pending, is_free, is_held_by, edit_first, taken_by, let_go, taken_out, parts_of, step}
-use Rattle.region_book.specs.Found.{places_from, AreEntered}
+use Rattle.cube_merge.specs.Names.{names_from}
+use Rattle.cube_merge.specs.Parts.{all_names}
+use Rattle.region_book.specs.Found.{AreEntered}
 use Rattle.region_book.specs.Prefixes.{NamesLeft, left_by}
 use Rattle.region_book.specs.Slots.{AreSlots, is_free_slot, is_held_slot, is_live, live_of, pending_of, slots_of, StandsAt}
 use Rattle.region_book.specs.Pages.{state_with, held_count, held_slots, HasReleaseRoom, ArePages, Enters}
@@ -47,21 +51,31 @@ module _ (old new : Pages) (k : ℕ) (n : Number) (at : ℕ) (d : Slot) (pages :
 
   -- what one event more leaves of what pages keep
   keeps : (long : length new.journal.items ≡ suc (length old.journal.items)) → All (λ s. s.number.place ≤ suc (length old.journal.items)) new.slots.slots.items →
-      AreEntered (suc (length old.journal.items)) new.published.items → HasReleaseRoom new → ArePages new
+      AreEntered (suc (length old.journal.items)) (all_names new.published) → HasReleaseRoom new → ArePages new
   keeps long placed entered room = record {
     slots = are;
     placed = subst (λ m. All (λ s. s.number.place ≤ m) new.slots.slots.items) (sym long) placed;
-    entered = subst (λ m. AreEntered m new.published.items) (sym long) entered;
+    entered = subst (λ m. AreEntered m (all_names new.published)) (sym long) entered;
     room = room;
   }
 
-  older_entered : AreEntered (length old.journal.items) old.published.items → AreEntered (suc (length old.journal.items)) old.published.items
-  older_entered entered = All-weaker (λ a. a.place ≤ length old.journal.items) (λ a. a.place ≤ suc (length old.journal.items)) (λ a low. omega arith) old.published.items entered
+  -- an event that brings no cube leaves the names as they are
+  abbrev Adds : ℕ → Type 0
+  Adds count = IsPermutation (all_names old.published ++ names_from (suc (length old.journal.items)) 0 count) (all_names new.published)
+
+  adds_none : new.published ≡ old.published → Adds 0
+  adds_none same =
+      subst₂ IsPermutation (sym (append-nil (all_names old.published))) (ap all_names (sym same)) (IsPermutation-refl (all_names old.published))
+
+  adds_entered : (count : ℕ) → Adds count → AreEntered (suc (length old.journal.items)) (all_names new.published)
+  adds_entered count adds =
+      All-permutation (λ a. a.place ≤ suc (length old.journal.items)) (all_names old.published ++ names_from (suc (length old.journal.items)) 0 count) (all_names new.published) adds
+      (entered_more (length old.journal.items) count (all_names old.published) pages.entered)
 
   pub enters_take :
       StandsAt (is_free_slot n) slots at →
       new.journal.items ≡ old.journal.items ++ Take k n ∷ [] →
-      new.published.items ≡ old.published.items →
+      new.published ≡ old.published →
       new.slots.slots.items ≡ set slots at (standing_at slots at d (Held k)) →
       new.spent ≡ old.spent →
       length old.journal.items + (length slots + 1) ≤ vec_capacity new.journal →
@@ -71,12 +85,13 @@ module _ (old new : Pages) (k : ℕ) (n : Number) (at : ℕ) (d : Slot) (pages :
       let one : length new.journal.items ≡ suc (length old.journal.items) = omega arith in
       record {
         journal = journal;
-        published = published ∙ sym (append-nil old.published.items);
+        parts = ap length published;
+        published = adds_none published;
         state = λ prefixes cubes names. same_state (cubes ++ []) cubes (live_of prefixes new.slots.slots.items) (edit_first (is_free n) (taken_by k) (live_of prefixes slots)) new.spent old.spent
             (append-nil cubes) (edit prefixes) spent;
         pages = keeps one
             (subst (All (λ s. s.number.place ≤ suc (length old.journal.items))) (sym same) (later_placed (length old.journal.items) (set slots at (standing_at slots at d (Held k))) (placed_set (length old.journal.items) slots at d (Held k) stands.inside pages.placed)))
-            (subst (AreEntered (suc (length old.journal.items))) (sym published) (older_entered pages.entered))
+            (adds_entered 0 (adds_none published))
             (let few = held_few (live_of nothing new.slots.slots.items) in
             let held = held_live nothing new.slots.slots.items in
             let live = live_few nothing new.slots.slots.items in
@@ -95,7 +110,7 @@ module _ (old new : Pages) (k : ℕ) (n : Number) (at : ℕ) (d : Slot) (pages :
   pub enters_release :
       StandsAt (is_held_slot k n) slots at →
       new.journal.items ≡ old.journal.items ++ Release k n ∷ [] →
-      new.published.items ≡ old.published.items →
+      new.published ≡ old.published →
       new.slots.slots.items ≡ set slots at (standing_at slots at d Free) →
       new.spent ≡ old.spent →
       vec_capacity old.journal ≤ vec_capacity new.journal →
@@ -105,12 +120,13 @@ module _ (old new : Pages) (k : ℕ) (n : Number) (at : ℕ) (d : Slot) (pages :
       let one : length new.journal.items ≡ suc (length old.journal.items) = omega arith in
       record {
         journal = journal;
-        published = published ∙ sym (append-nil old.published.items);
+        parts = ap length published;
+        published = adds_none published;
         state = λ prefixes cubes names. same_state (cubes ++ []) cubes (live_of prefixes new.slots.slots.items) (edit_first (is_held_by k n) let_go (live_of prefixes slots)) new.spent old.spent
             (append-nil cubes) (edit prefixes) spent;
         pages = keeps one
             (subst (All (λ s. s.number.place ≤ suc (length old.journal.items))) (sym same) (later_placed (length old.journal.items) (set slots at (standing_at slots at d Free)) (placed_set (length old.journal.items) slots at d Free stands.inside pages.placed)))
-            (subst (AreEntered (suc (length old.journal.items))) (sym published) (older_entered pages.entered))
+            (adds_entered 0 (adds_none published))
             (let less = held_released k n (live_of nothing slots) (some_held nothing stands) in
             let held = held_live nothing slots in
             let now = ap held_count (edit nothing) in
@@ -125,24 +141,26 @@ module _ (old new : Pages) (k : ℕ) (n : Number) (at : ℕ) (d : Slot) (pages :
   pub enters_report : (o : Outcome) (left : List Slot) →
       StandsAt (is_held_slot k n) slots at →
       new.journal.items ≡ old.journal.items ++ Report k n o ∷ [] →
-      new.published.items ≡ old.published.items ++ places_from (suc (length old.journal.items)) 0 (length o.cubes) →
+      length new.published ≡ length old.published →
+      Adds (length o.cubes) →
       filter is_live left ≡ filter is_live (set slots at (standing_at slots at d Gone)) →
       All (λ s. s.number.place ≤ length old.journal.items) left →
       new.slots.slots.items ≡ left ++ slots_of (suc (length old.journal.items)) k o →
       new.spent ≡ min (old.spent + o.leaves) (2 ^ 62) →
       length old.journal.items + (length slots + 1) ≤ vec_capacity new.journal →
       Enters (Report k n o) old new
-  enters_report o left stands journal published squeezed placed same spent room =
+  enters_report o left stands journal parts published squeezed placed same spent room =
       let long = ap length journal ∙ length_push old.journal.items (Report k n o) in
       let one : length new.journal.items ≡ suc (length old.journal.items) = omega arith in
       record {
         journal = journal;
+        parts = parts;
         published = published;
         state = λ prefixes cubes names. by_found prefixes cubes names (find (is_held_by k n) (live_of prefixes slots)) refl;
         pages = keeps one
             (subst (All (λ s. s.number.place ≤ suc j)) (sym same) (All-append (λ s. s.number.place ≤ suc j) left (slots_of (suc j) k o) (later_placed j left placed)
             (All-weaker (λ s. s.number.place ≡ suc j) (λ s. s.number.place ≤ suc j) (λ s e. omega arith) (slots_of (suc j) k o) (slots_placed (suc j) k o))))
-            (subst (AreEntered (suc j)) (sym published) (entered_more j (length o.cubes) old.published.items pages.entered))
+            (adds_entered (length o.cubes) published)
             (let few = held_reported k n (live_of own slots) (suc j) o (some_held own stands) in
             let now = ap held_count (edit own own_names) in
             let held_now = held_live own new.slots.slots.items in

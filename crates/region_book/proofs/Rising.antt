@@ -1,6 +1,6 @@
 -- Slots whose numbers rise: one is found by halves, and the first that passes has the lowest number.
 use Rattle.std.proofs.Common.{◌≡◌, ℕ, zero, suc, ◌+◌, ◌<◌, ◌≤◌, Bool, true, false, ◌&&◌, nat_eq, nat_lt, List, [], ◌∷◌, ◌++◌, filter, length, length-append, length-set, get_or, set, ℤ, Option, Some, None, refl, sym, ap, ap₂, subst, ◌∙◌, inl, inr, arith}
-use Rattle.std.specs.List.{All, AllWithin, list_any, position, position_or_len}
+use Rattle.std.specs.List.{All, AllPairs, AllWithin, list_any, position, position_or_len}
 use Rattle.std.specs.List.Sorted.{IsPartitionedBy, IsPartitionPoint}
 use Rattle.std.proofs.lemmas.Bool.{cases_Bool, cases_eq, cases_lt, both_ways, and_parts, and_from, and_left, and_right, or_left, or_right, eq-eqb, eqb-true, lt-ltb, false_from_ne_true}
 use Rattle.std.proofs.lemmas.List.{get_or-set_same, get_or-set_other, get_or_append_left, get_or_default}
@@ -61,12 +61,15 @@ rise_set slots at new inside same rise i j d low high =
       | inr other ↦ ap (λ (x : Slot). x.number) (get_or-set_other slots at k new d other)
     ]
 
+pub pairs_append : {X : Type 0} (R : X → X → Type 0) (xs ys : List X) → AllPairs R xs → AllPairs R ys → ((i j : ℕ) (d : X) → i < length xs → j < length ys → R (get_or xs i d) (get_or ys j d)) → AllPairs R (xs ++ ys)
+pairs_append R [] ys one two between = two
+pairs_append R (x ∷ xs) ys one two between =
+    AllPairs-cons R x (xs ++ ys)
+    (All-append (R x) xs ys (λ k d inside. one zero (suc k) d (omega arith) (omega arith)) (λ k d inside. between zero k d (omega arith) inside))
+    (pairs_append R xs ys (λ i j d low inside. one (suc i) (suc j) d (omega arith) (omega arith)) two (λ i j d low high. between (suc i) j d (omega arith) high))
+
 pub rise_append : (ss ts : List Slot) → NumbersRise ss → NumbersRise ts → ((i j : ℕ) (d : Slot) → i < length ss → j < length ts → is_before (get_or ss i d).number (get_or ts j d).number ≡ true) → NumbersRise (ss ++ ts)
-rise_append [] ts one two between = two
-rise_append (s ∷ ss) ts one two between =
-    AllPairs-cons (λ x y. is_before x.number y.number ≡ true) s (ss ++ ts)
-    (All-append (λ t. is_before s.number t.number ≡ true) ss ts (rise_head s ss one) (λ k d inside. between zero k d (omega arith) inside))
-    (rise_append ss ts (rise_tail s ss one) two (λ i j d low high. between (suc i) j d (omega arith) high))
+rise_append ss ts one two between = pairs_append (λ s t. is_before s.number t.number ≡ true) ss ts one two between
 
 pub All-filter : (P : Slot → Type 0) (slots : List Slot) → All P slots → All P (filter is_live slots)
 All-filter P [] all = all
@@ -88,7 +91,7 @@ rise_filter (s ∷ slots) rise =
 
 -- ---- new slots
 
-by_place : (m n : Number) → m.place < n.place → is_before m n ≡ true
+pub by_place : (m n : Number) → m.place < n.place → is_before m n ≡ true
 by_place m n h = or_left (nat_lt m.place n.place) (nat_eq m.place n.place && nat_lt m.index n.index) (lt-ltb m.place n.place h)
 
 by_index : (m n : Number) → m.place ≡ n.place → m.index < n.index → is_before m n ≡ true

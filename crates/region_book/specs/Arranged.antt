@@ -5,8 +5,8 @@ use Rattle.std.specs.declared.cmp.Ordering.{Ordering}
 use Rattle.sat_terms.specs.CubeOrder.{cube_order}
 use Rattle.sat_terms.specs.declared.subject.Subject.{Subject}
 use Rattle.checkpoint.specs.declared.saved.Saved.{Saved}
+use Rattle.cube_merge.specs.declared.name.CubeName.{CubeName}
 use Rattle.region_book.specs.declared.event.Event.{Event}
-use Rattle.region_book.specs.declared.found_at.FoundAt.{FoundAt}
 use Rattle.region_book.specs.declared.slot.Slot.{Slot}
 use Rattle.region_book.specs.Machine.{Pending}
 use Rattle.region_book.specs.Found.{named_cubes}
@@ -22,11 +22,11 @@ pub record ArrangedView : Type 0 where
   pub published : List (List ℤ)
   pub pending : List Pending
 
-abbrev pub arranged_view : Subject → Option Saved → ℕ → List Event → List FoundAt → List Slot →
+abbrev pub arranged_view : Subject → Option Saved → ℕ → List Event → List CubeName → List Slot →
     ArrangedView
-arranged_view subject saved passes journal found slots = record {
+arranged_view subject saved passes journal names slots = record {
   book = book_of subject saved passes journal;
-  published = named_cubes saved journal found;
+  published = named_cubes saved journal names;
   pending = map (pending_of (prefix_at subject saved journal)) slots;
 }
 
@@ -43,7 +43,7 @@ pub record IsArranged (a : ArrangedView) : Type 0 where
 
 -- What an arranged book keeps.
 pub record KeepsArranged (subject : Subject) (saved : Option Saved) (passes : ℕ)
-    (journal : List Event) (found : List FoundAt) (slots : List Slot) (spent : ℕ) : Type 0 where
-  pub arranged : IsArranged (arranged_view subject saved passes journal found slots)
+    (journal : List Event) (names : List CubeName) (slots : List Slot) (spent : ℕ) : Type 0 where
+  pub arranged : IsArranged (arranged_view subject saved passes journal names slots)
   pub legal : AreLegal subject.formula.clauses subject.shown 1 journal (start_of subject saved)
   pub spends : spent ≡ (replay subject saved journal).spent

@@ -1,5 +1,5 @@
 -- What contracts see of a book, and what its calls do.
-use Rattle.std.specs.Prelude.{◌≡◌, ℕ, false, is_some, is_none, suc, List, [], ◌∷◌, ◌++◌, length, ℤ, Option, Some, None}
+use Rattle.std.specs.Prelude.{◌≡◌, ℕ, false, is_some, is_none, suc, ◌+◌, List, [], ◌∷◌, ◌++◌, length, ℤ, Option, Some, None}
 use Rattle.std.specs.List.{All, find}
 use Rattle.sat_terms.specs.declared.subject.Subject.{Subject}
 use Rattle.checkpoint.specs.declared.saved.Saved.{Saved}
@@ -16,7 +16,7 @@ use Rattle.region_book.specs.declared.pages.Pages.{Pages}
 use Rattle.region_book.specs.Machine.{Pending}
 use Rattle.region_book.specs.Lowest.{IsLowestOf}
 use Rattle.region_book.specs.Machine.{BookState, is_free, steps_from, AreLegal}
-use Rattle.region_book.specs.Pages.{state_of_pages, ArePages, prefix_of, report_answer}
+use Rattle.region_book.specs.Pages.{IsSameState, state_of_pages, ArePages, prefix_of, report_answer}
 use Rattle.region_book.specs.Starts.{start_of, CanBegin}
 
 -- What a book began with, and its events.
@@ -48,11 +48,14 @@ state_of b = replay b.subject b.saved b.journal
 abbrev pub with_event : Event → BookView → BookView
 with_event e b = record b { journal = b.journal ++ e ∷ [] }
 
--- A book: its events were legal, and the pages are what they made.
+-- A book: its events were legal, and the pages are what they made, with a part for each pass and
+-- one for what was saved.
 pub record IsBook (subject : Subject) (saved : Option Saved) (passes : ℕ)
     (pages : Pages) : Type 0 where
   pub begins : CanBegin subject saved passes
-  pub state : replay subject saved pages.journal.items ≡ state_of_pages subject saved pages
+  pub state : IsSameState (replay subject saved pages.journal.items)
+      (state_of_pages subject saved pages)
+  pub parts : length pages.published ≡ passes + 1
   pub legal : AreLegal subject.formula.clauses subject.shown 1 pages.journal.items
       (start_of subject saved)
   pub kept : ArePages pages

@@ -1,12 +1,13 @@
 -- The laws of a book's events.
-use Rattle.std.specs.Prelude.{◌≡◌, ℕ, ◌+◌, ◌≤◌, ◌^◌, nat_eq, List, [], ◌∷◌, filter, length, ℤ, Option, Some, None}
-use Rattle.std.specs.List.{All}
+use Rattle.std.specs.Prelude.{◌≡◌, true, ℕ, ◌+◌, ◌≤◌, ◌^◌, nat_eq, List, [], ◌∷◌, filter, length, ℤ, Option, Some, None}
+use Rattle.std.specs.List.{All, AllPairs}
 use Rattle.std.specs.List.Sorted.{IsSorted, IsPermutation}
 use Rattle.sat_terms.specs.Cubes.{IsCube}
 use Rattle.sat_terms.specs.CubeOrder.{cube_order}
 use Rattle.sat_terms.specs.RightList.{IsRightList}
 use Rattle.search_job.specs.Weights.{weights}
 use Rattle.prefix_jobs.specs.declared.number.Number.{Number}
+use Rattle.prefix_jobs.specs.Numbers.{is_before}
 use Rattle.region_book.specs.declared.event.Event.{Event}
 use Rattle.region_book.specs.Machine.{Pending}
 use Rattle.region_book.specs.Machine.{BookState, prefixes_of, has_number, held_by, steps_from, start_from, AreLegal, pass_of}
@@ -60,6 +61,13 @@ abbrev pub NumbersAreDistinct : Type 0
 NumbersAreDistinct =
     (cubes prefixes : List (List ℤ)) (events : List Event) →
     AreNumbered (steps_from 1 events (start_from cubes prefixes)).pending (length events)
+
+-- Pending prefixes stand by rising number, after any events, legal or not.
+abbrev pub PendingNumbersRise : Type 0
+PendingNumbersRise =
+    (cubes prefixes : List (List ℤ)) (events : List Event) →
+    AllPairs (λ q r. is_before q.number r.number ≡ true)
+    (steps_from 1 events (start_from cubes prefixes)).pending
 
 -- The start is a partition: nothing was saved, or the saved lines are one.
 abbrev pub BeginsWhole : Subject → Option Saved → Type 0

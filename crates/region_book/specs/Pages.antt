@@ -1,6 +1,7 @@
 -- What the pages of a book hold, and what each event makes of them.
 use Rattle.std.specs.Prelude.{◌≡◌, false, ℕ, suc, ◌+◌, ◌≤◌, List, [], ◌∷◌, ◌++◌, filter, length, ℤ, Option, Some, None, is_some, vec_capacity}
 use Rattle.std.specs.List.{All, find}
+use Rattle.std.specs.List.Sorted.{IsPermutation}
 use Rattle.sat_terms.specs.declared.subject.Subject.{Subject}
 use Rattle.prefix_jobs.specs.declared.number.Number.{Number}
 use Rattle.prefix_jobs.specs.declared.outcome.Outcome.{Outcome}
@@ -12,7 +13,9 @@ use Rattle.region_book.specs.declared.event.Event.TheVariants.{Take, Report}
 use Rattle.region_book.specs.declared.pages.Pages.{Pages}
 use Rattle.region_book.specs.declared.slot.Slot.{Slot}
 use Rattle.checkpoint.specs.declared.saved.Saved.{Saved}
-use Rattle.region_book.specs.Found.{brought_by, named_cubes, places_from, AreEntered}
+use Rattle.cube_merge.specs.Names.{names_from}
+use Rattle.cube_merge.specs.Parts.{all_names}
+use Rattle.region_book.specs.Found.{brought_by, named_cubes, AreEntered}
 use Rattle.region_book.specs.Machine.{BookState, Pending, is_free, step}
 use Rattle.region_book.specs.Prefixes.{prefix_at, NamesLeft}
 use Rattle.region_book.specs.Slots.{AreSlots, free_slots, is_held_slot, live_of, stands_held}
@@ -29,7 +32,13 @@ state_with prefixes cubes x = record {
 abbrev pub state_of_pages : Subject → Option Saved → Pages → BookState
 state_of_pages subject saved x =
     state_with (prefix_at subject saved x.journal.items)
-    (named_cubes saved x.journal.items x.published.items) x
+    (named_cubes saved x.journal.items (all_names x.published)) x
+
+-- Two states are the same, but for the order in which the published cubes are listed.
+pub record IsSameState (s t : BookState) : Type 0 where
+  pub published : IsPermutation s.published t.published
+  pub pending : s.pending ≡ t.pending
+  pub spent : s.spent ≡ t.spent
 
 -- How many prefixes are held.
 abbrev pub held_slots : List Slot → ℕ
@@ -53,23 +62,25 @@ HasEventRoom x =
 pub record ArePages (x : Pages) : Type 0 where
   pub slots : AreSlots x.slots
   pub placed : All (λ s. s.number.place ≤ length x.journal.items) x.slots.slots.items
-  pub entered : AreEntered (length x.journal.items) x.published.items
+  pub entered : AreEntered (length x.journal.items) (all_names x.published)
   pub room : HasReleaseRoom x
 
 -- Nothing has changed but room.
 pub record IsSame (old new : Pages) : Type 0 where
   pub journal : new.journal.items ≡ old.journal.items
-  pub published : new.published.items ≡ old.published.items
+  pub published : new.published ≡ old.published
   pub slots : new.slots.slots.items ≡ old.slots.slots.items
   pub spent : new.spent ≡ old.spent
   pub pages : ArePages new
 
 -- The event was entered at the next place of the journal, and did what it does: its cubes are
--- published there, and the prefixes that it leaves are pending there.
+-- published there, in any of the parts, and the prefixes that it leaves are pending there.
 pub record Enters (e : Event) (old new : Pages) : Type 0 where
   pub journal : new.journal.items ≡ old.journal.items ++ e ∷ []
-  pub published : new.published.items ≡ old.published.items
-      ++ places_from (suc (length old.journal.items)) 0 (length (brought_by e))
+  pub parts : length new.published ≡ length old.published
+  pub published : IsPermutation (all_names old.published
+      ++ names_from (suc (length old.journal.items)) 0 (length (brought_by e)))
+      (all_names new.published)
   pub state : (prefixes : Number → List ℤ) (cubes : List (List ℤ)) →
       NamesLeft prefixes (suc (length old.journal.items)) e →
       state_with prefixes (cubes ++ brought_by e) new
@@ -93,9 +104,8 @@ TakesPrefix subject saved old new k n Gone =
 abbrev pub IsHeldIn : ℕ → Number → Pages → Type 0
 IsHeldIn k n x = All (λ s. is_held_slot k n s ≡ false) x.slots.slots.items → ⊥
 
--- There is room for what the outcome brings and leaves, and for the event.
+-- There is room for what the outcome leaves, and for the event.
 pub record HasOutcomeRoom (x : Pages) (o : Outcome) : Type 0 where
-  pub cubes_room : length x.published.items + length o.cubes ≤ vec_capacity x.published
   pub slots_room : length x.slots.slots.items + (length o.rest + 1) ≤ vec_capacity x.slots.slots
   pub room : HasEventRoom x
 
@@ -113,10 +123,11 @@ pub record Reports (old new : Pages) (k : ℕ) (n : Number) (o : Outcome)
   pub enters : Enters (Report k n o) old new
   pub answers : answer ≡ report_answer (suc (length old.journal.items)) o new.spent
 
--- The pages of a beginning with so many cubes and prefixes.
-pub record BeginsWith (cubes prefixes : ℕ) (x : Pages) : Type 0 where
+-- The pages of a beginning of so many passes, with so many cubes and prefixes.
+pub record BeginsWith (passes cubes prefixes : ℕ) (x : Pages) : Type 0 where
   pub journal : x.journal.items ≡ []
-  pub published : x.published.items ≡ places_from 0 0 cubes
+  pub parts : length x.published ≡ passes + 1
+  pub published : IsPermutation (names_from 0 0 cubes) (all_names x.published)
   pub slots : x.slots.slots.items ≡ free_slots 0 0 prefixes
   pub spent : x.spent ≡ 0
   pub pages : ArePages x

@@ -8,13 +8,13 @@ ghost use Rattle.region_book.specs.Arranged.{IsArranged};
 
 use crate::book::Book;
 use crate::event::Event;
-use crate::found_at::{FoundAt, cube_at};
+use crate::found_cubes::cube_at;
 use crate::left_prefixes::prefix_at;
 use crate::pages::Pages;
 use crate::shelves::Shelves;
 use crate::slot::Slot;
 use checkpoint::{Saved, SavedView};
-use cube_merge::put_in_order;
+use cube_merge::{CubeName, put_in_order};
 use sat_terms::{CubeList, Subject};
 use std::marker::Model;
 
@@ -26,7 +26,7 @@ pub struct ArrangedBook {
     saved: Option<Saved>,
     passes: u32,
     journal: Vec<Event>,
-    published: Vec<FoundAt>,
+    published: Vec<CubeName>,
     pending: Vec<Slot>,
     spent: u64,
 }
@@ -61,7 +61,7 @@ impl Book {
         } = self;
         let Pages {
             journal,
-            mut published,
+            published,
             mut slots,
             spent,
         } = pages;
@@ -70,7 +70,7 @@ impl Book {
             saved: &saved,
             journal: &journal,
         };
-        put_in_order(&mut published, &shelves);
+        let published = published.arrange(&shelves);
         slots.squeeze();
         let mut pending = slots.into_vec();
         put_in_order(&mut pending, &shelves);

@@ -56,7 +56,7 @@ impl Book {
           journal = [];
         }) }
     {
-        let pages = Pages::start(alloc, &subject, &saved)?;
+        let pages = Pages::start(alloc, &subject, &saved, passes)?;
         Ok(Book {
             alloc,
             subject,
@@ -110,10 +110,10 @@ impl Book {
         ensures unchanged { IfErr result (λ refused. self.new ≡ self.old) }
         ensures given_back { IfErr result (λ refused. refused.0 ≡ outcome) }
     {
-        match self.pages.prepare(&outcome) {
-            Ok(()) => Ok(self.pages.report(pass, number, outcome)),
-            Err(error) => Err((outcome, error)),
+        if let Err(error) = self.pages.prepare(&outcome) {
+            return Err((outcome, error));
         }
+        self.pages.report(pass, number, outcome)
     }
 
     /// Gives a prefix back that the pass holds. It takes no memory.

@@ -1,6 +1,7 @@
 //! The laws of a book's events, each as the contract of an empty function.
 ghost use Rattle.region_book.specs.Laws.{StartIsPartition, EventsKeepPartition, NothingPendingIsRight};
-ghost use Rattle.region_book.specs.Laws.{OthersKeep, NumbersAreDistinct, ArrangedIsWhole};
+ghost use Rattle.region_book.specs.Laws.{OthersKeep, NumbersAreDistinct, PendingNumbersRise};
+ghost use Rattle.region_book.specs.Laws.{ArrangedIsWhole};
 ghost use Rattle.region_book.specs.Examples.{HasScript};
 
 /// A book without saved lines begins with a partition: the given literals are its one prefix.
@@ -33,6 +34,11 @@ pub fn others_keep()
 /// Any two pending prefixes have different numbers.
 pub fn numbers_are_distinct()
     ensures { NumbersAreDistinct }
+{}
+
+/// Pending prefixes stand by rising number.
+pub fn numbers_rise()
+    ensures { PendingNumbersRise }
 {}
 
 /// A script of two passes, each event of which is legal, and what it comes to.

@@ -9,7 +9,7 @@ mod answers;
 mod arranged;
 mod book;
 mod event;
-mod found_at;
+mod found_cubes;
 mod journalled;
 pub mod laws;
 mod left_prefixes;

@@ -1,10 +1,10 @@
 //! The literals of what a book names by its place.
 use crate::event::Event;
-use crate::found_at::{FoundAt, cube_at};
+use crate::found_cubes::cube_at;
 use crate::left_prefixes::prefix_at;
 use crate::slot::Slot;
 use checkpoint::Saved;
-use cube_merge::Shelf;
+use cube_merge::{CubeName, Shelf};
 use sat_terms::Subject;
 
 /// Where the cubes and the prefixes of a book stand: with what it began with, and in its journal.
@@ -15,12 +15,12 @@ pub(crate) struct Shelves<'a> {
     pub(crate) journal: &'a [Event],
 }
 
-impl Shelf<FoundAt> for Shelves<'_> {
+impl Shelf<CubeName> for Shelves<'_> {
     ghost use Rattle.region_book.specs.Found.{cube_at};
 
     ghost cube_of = { λ x name. cube_at x.saved.now x.journal.now name };
 
-    fn lits_of(&self, name: FoundAt) -> &[i32] {
+    fn lits_of(&self, name: CubeName) -> &[i32] {
         cube_at(self.saved, self.journal, name)
     }
 }

@@ -32,7 +32,7 @@ returns-clause-takes c =
     let found = find_live prefixes (is_free_slot n) (is_free n) (mirrors_free prefixes n) slots at any_slot c.in-Some.ensures in (
       enters_take old new c.args.pass n at any_slot c.requires c.set_standing.ensures.are c.in-Some.ensures
           (c.push_reserved.ensures.items ∙ ap (λ x. x ++ Take c.args.pass n ∷ []) same_journal)
-          (ap (λ (x : Pages). x.published.items) others)
+          (ap (λ (x : Pages). x.published) others)
           (c.set_standing.ensures.slots any_slot ∙ ap (λ x. set x at (record (get_or x at any_slot) { standing = Held c.args.pass })) (ap (λ x. x.slots.items) same_slots))
           (ap (λ (x : Pages). x.spent) others)
           (let room = c.in_ok-make_room.ensures.room in

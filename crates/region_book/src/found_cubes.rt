@@ -1,24 +1,22 @@
 //! Where the published cubes stand.
-ghost use Rattle.std.specs.Prelude.{◌≡◌, ◌+◌, ◌≤◌, ◌++◌, [], map, length, slice_index_or, vec_capacity};
-ghost use Rattle.region_book.specs.Found.{saved_cubes, brought_by, cubes_at, cube_at, places_from};
+ghost use Rattle.std.specs.Prelude.{◌≡◌, [], map, slice_index_or};
+ghost use Rattle.region_book.specs.Found.{saved_cubes, brought_by, cubes_at, cube_at};
 
 use crate::event::Event;
 use checkpoint::Saved;
+use cube_merge::CubeName;
 use sat_terms::Cube;
 
-/// A published cube: which one it is of those that were saved, at the place 0, or of those that the
-/// event at this place of the journal brought. Places of events count from 1.
-#[derive(Clone, Copy, Debug)]
-pub(crate) struct FoundAt {
-    pub(crate) place: usize,
-    pub(crate) index: usize,
-}
-
-/// The literals of the cube that stands there; none where no cube does. Constant time.
-pub(crate) fn cube_at<'a>(saved: &'a Option<Saved>, journal: &'a [Event], at: FoundAt) -> &'a [i32]
-    ensures { result.now ≡ cube_at saved.now journal.now at }
+/// The literals of the cube of a name; none where no cube has it. The cubes that were saved stand
+/// at the place 0, those that an event brought at the event's place. Constant time.
+pub(crate) fn cube_at<'a>(
+    saved: &'a Option<Saved>,
+    journal: &'a [Event],
+    name: CubeName,
+) -> &'a [i32]
+    ensures { result.now ≡ cube_at saved.now journal.now name }
 {
-    lits_of(cubes_at(saved, journal, at.place), at.index)
+    lits_of(cubes_at(saved, journal, name.place), name.index)
 }
 
 /// The literals of the cube of this index.
@@ -71,15 +69,5 @@ fn brought_by(event: &Event) -> &[Cube]
     match event {
         Event::Report { outcome, .. } => outcome.cubes.as_slice(),
         Event::Take { .. } | Event::Release { .. } => &[],
-    }
-}
-
-/// Adds the places of so many cubes, where there is room for them.
-pub(crate) fn add_places(found: &mut Vec<FoundAt>, place: usize, count: usize)
-    requires { length found.old.items + count ≤ vec_capacity found.old }
-    ensures { found.new.items ≡ found.old.items ++ places_from place 0 count }
-{
-    for index in 0..count {
-        found.push_reserved(FoundAt { place, index });
     }
 }
