@@ -1,20 +1,16 @@
 -- What the walks for a clause that is not met answer.
-use Rattle.std.specs.Prelude.{◌≡◌, ℕ, ◌<◌, Bool, true, false, ◌||◌, List, [], length, take, slice_index_or, ℤ, Option, Some, None}
-use Rattle.std.specs.List.{All, list_any, list_all}
-use Rattle.sat_terms.specs.Cubes.{rises_above, has_literal, has_pair}
+use Rattle.std.specs.Prelude.{◌≡◌, ℕ, ◌<◌, true, false, List, [], length, take, slice_index_or, ℤ, Option, Some, None}
+use Rattle.std.specs.List.{All, list_all}
+use Rattle.sat_terms.specs.Cubes.{rises_above}
 use Rattle.sat_terms.specs.Literals.{IsLiteralOf}
 use Rattle.cube_check.specs.declared.met.Met.{Met}
-use Rattle.cube_check.specs.Verdicts.{meets_all, IsFirstMiss}
+use Rattle.cube_check.specs.Verdicts.{is_met_by, meets_all, IsFirstMiss}
 
 -- Literals of the variables 1 to n; those of the cube rise.
 pub record IsNamed (n : ℕ) (m : Met) : Type 0 where
   pub rising : rises_above 0 m.cube ≡ true
   pub cube : All (IsLiteralOf n) m.cube
   pub hidden : All (IsLiteralOf n) m.hidden
-
--- A clause is met by literals.
-abbrev pub is_met_by : List ℤ → List ℤ → Bool
-is_met_by c clause = has_pair clause || list_any (has_literal c) clause
 
 -- The place of the first clause that they do not meet, if there is one.
 abbrev pub MissesFirst : List ℤ → List (List ℤ) → Option ℕ → Type 0

@@ -12,10 +12,13 @@ pub record IsMet (n : ℕ) (p : List ℕ) (m : Met) : Type 0 where
   pub rising : rises_above 0 m.hidden ≡ true
   pub hidden : list_all (λ l. nat_le (nat_abs l) n && not (is_among p (nat_abs l))) m.hidden ≡ true
 
--- A clause is met where it holds a literal and its negation, or has a literal of the cube or one of
--- the hidden ones.
+-- A clause is met by literals where it holds a literal and its negation, or has one of these.
+abbrev pub is_met_by : List ℤ → List ℤ → Bool
+is_met_by c clause = has_pair clause || list_any (has_literal c) clause
+
+-- A clause is met by the literals of the cube and the hidden ones together.
 abbrev pub meets : Met → List ℤ → Bool
-meets m clause = has_pair clause || list_any (has_literal (m.cube ++ m.hidden)) clause
+meets m clause = is_met_by (m.cube ++ m.hidden) clause
 
 -- Each clause of the formula is met.
 abbrev pub meets_all : List (List ℤ) → Met → Bool

@@ -1,7 +1,7 @@
 use Rattle.std.proofs.Common.{◌≡◌, List, ℤ, take, true}
 use Rattle.std.specs.List.{list_all}
-use Rattle.cube_check.specs.Misses.{is_met_by}
 use Rattle.cube_check.specs.Marks.{AreMarked}
+use Rattle.cube_check.specs.Verdicts.{is_met_by}
 use Rattle.cube_check.proofs.misses.first_missed.Given as goal
 
 abbrev pub invariant-loop-place : goal.invariant-loop-place
