@@ -1,7 +1,7 @@
 //! How a lemma is fetched and offered, under any rule.
 //!
-//! What `fetch_oldest` learns where it finds nothing has its force here: of a rule that is not known
-//! a call learns it from the queue alone.
+//! What `fetch_oldest` learns where it finds nothing has its force here: of a rule that is not
+//! known a call learns it from the queue alone.
 ghost use Rattle.std.specs.Prelude.{◌≡◌, ◌⊎◌, ℕ, IfSome, IfNone};
 ghost use Rattle.crossbeam_queue.specs.Fifo.{Pushes, Pops, Learns, Held};
 ghost use Rattle.crossbeam_queue.specs.Passes.{view};

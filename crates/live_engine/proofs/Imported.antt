@@ -19,6 +19,10 @@ use Rattle.live_engine.specs.Engines.{IsEngine, IsIdle, IsInPhase, engine_view, 
 use Rattle.live_engine.specs.Lemmas.{HasImported, TakesFresh}
 use Rattle.live_engine.proofs.Sent.{follows_once, skipped, phase_sent}
 
+-- the clauses below the lemmas are as many as those of the formula
+pub formula_count : (subject : Subject) (s : Search) → IsOf subject s → s.arena.base ≤ length s.arena.clauses → s.arena.base ≡ length subject.formula.clauses
+formula_count subject s of based = sym (length-take-le s.arena.base s.arena.clauses based) ∙ ap length of.formula ∙ length-map subject.formula.clauses once
+
 -- ---- an import
 
 module _ (subject : Subject) (s : Search) (of : IsOf subject s) (idle : IsIdle s) (c : List ℤ) (refuted : Bool) (new : Search) (imports : Imports s new c refuted) (after : Search) (skips : Skips new after) where
@@ -26,7 +30,7 @@ module _ (subject : Subject) (s : Search) (of : IsOf subject s) (idle : IsIdle s
   is_after = skips.rest ∙ ap (λ (n : Search). record n { sent = after.sent }) imports.rest
 
   is_base : s.arena.base ≡ length subject.formula.clauses
-  is_base = sym (length-take-le s.arena.base s.arena.clauses idle.ground.based) ∙ ap length of.formula ∙ length-map subject.formula.clauses once
+  is_base = formula_count subject s of idle.ground.based
 
   same_arena : after.arena ≡ new.arena
   same_arena = ap (λ (n : Search). n.arena) is_after

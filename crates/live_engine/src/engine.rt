@@ -1,5 +1,5 @@
 //! The engine, as its callers see it.
-ghost use Rattle.std.specs.Prelude.{◌≡◌, ◌≢◌, ◌<◌, ◌≤◌, [], None, Some, IfOk, IfErr, filter, nat_le, length};
+ghost use Rattle.std.specs.Prelude.{◌≡◌, ◌≢◌, ◌-◌, ◌<◌, ◌≤◌, [], None, Some, IfOk, IfErr, filter, nat_le, length};
 ghost use Rattle.sat_terms.specs.Cubes.{IsCube};
 ghost use Rattle.sat_terms.specs.Subjects.{IsSubject};
 ghost use Rattle.live_engine.specs.Engines.{HasStarted, Leafs, FitsJob, outcome_of, value_told};
@@ -246,6 +246,13 @@ impl Engine {
     {
         self.search.drop_lemmas(keep);
         self.search.skip_lemmas();
+    }
+
+    /// How many lemmas it keeps.
+    pub fn lemmas(&self) -> u32
+        ensures { result ≡ length self.now.clauses - length self.now.subject.formula.clauses }
+    {
+        self.search.arena.len() - self.search.arena.base()
     }
 
     /// The variables of the formula are 1 to this one.

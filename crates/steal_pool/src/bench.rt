@@ -4,7 +4,7 @@ ghost use Rattle.steal_pool.specs.Stealing.{visit_of, visits_of};
 ghost use Rattle.steal_pool.specs.Benches.{bench_with_put, bench_with_taken, IsStolen, IsAlone, new_visit};
 
 use crate::other::Other;
-use crate::rule::{Cut, Fair, Hand, Putting, Taking};
+use crate::rule::{Counting, Cut, Fair, Hand, Putting, Taking};
 use crate::taking::{steal_from, take_newest};
 use crossbeam_deque::Worker;
 use prefix_jobs::Token;
@@ -83,8 +83,8 @@ impl Bench {
         self.deque.push_as::<Putting>(token)
     }
 
-    /// Takes the newest token that is left. None comes only where the bench was empty at a moment of
-    /// the call.
+    /// Takes the newest token that is left. None comes only where the bench was empty at a moment
+    /// of the call.
     pub fn own(&mut self) -> Option<Token>
         ensures taken { IfSome result (λ t. self.new ≡ bench_with_taken self.old t) }
         ensures unchanged { IfNone result (self.new ≡ self.old) }
@@ -100,6 +100,13 @@ impl Bench {
         ensures unchanged { IfNone result (self.new ≡ self.old) }
     {
         steal_from::<R, Hand, Fair, Taking>(rt, &mut self.others)
+    }
+
+    /// Whether no token lies on it, at a moment of the call. It is advice: others steal meanwhile.
+    pub fn is_empty(&mut self) -> bool
+        ensures { self.new ≡ self.old }
+    {
+        self.deque.len_as::<Counting>() == 0
     }
 
     /// Says whether its worker is hungry. It is advice: no contract rests on it.

@@ -1,5 +1,5 @@
 //! The rule of a bench's deque: what was put on it is what was taken and what it holds.
-use crossbeam_deque::protocol::{Outcome, Protocol, Split};
+use crossbeam_deque::protocol::{Lesson, Outcome, Protocol, Split};
 use prefix_jobs::Token;
 use std::collections::LinkedList;
 
@@ -51,4 +51,13 @@ impl Outcome<Token, Hand> for Taking {
     ghost use Rattle.steal_pool.specs.Rule.{hand_with_taken};
 
     ghost then = { λ v xs w. w ≡ hand_with_taken v xs };
+}
+
+/// The tokens are counted.
+pub(crate) struct Counting;
+
+impl Lesson<Token, Hand> for Counting {
+    ghost use Rattle.std.specs.Prelude.{⊤};
+
+    ghost fact = { λ v items. ⊤ };
 }

@@ -31,7 +31,9 @@ fn the_owner_takes_the_newest_and_a_thief_the_oldest(rt: HostRuntime) -> Result<
     }
     assert_eq!(rt; told(thief.steal(&rt)), Some((2, 0)));
     assert_eq!(rt; told(owner.own()), Some((2, 2)));
+    assert!(rt; !owner.is_empty());
     assert_eq!(rt; told(owner.own()), Some((2, 1)));
+    assert!(rt; owner.is_empty());
     assert_eq!(rt; told(owner.own()), None);
     assert_eq!(rt; told(thief.steal(&rt)), None);
     Ok(())

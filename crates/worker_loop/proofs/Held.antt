@@ -1,5 +1,5 @@
 -- What is held, after a prefix was taken, given back, and reported.
-use Rattle.std.proofs.Common.{◌≡◌, ◌≢◌, ℕ, suc, ◌<◌, Bool, true, false, ◌&&◌, is_none, List, [], ◌∷◌, ◌++◌, length, ℤ, Option, Some, None, refl, ap, ◌∙◌, inl, inr, arith}
+use Rattle.std.proofs.Common.{◌≡◌, ℕ, suc, Bool, true, false, ◌&&◌, is_none, List, [], ◌∷◌, ◌++◌, length, ℤ, Option, Some, None, refl, ap, ◌∙◌, inl, inr}
 use Rattle.std.specs.List.{All, find}
 use Rattle.std.proofs.Math.Bool.{and-false}
 use Rattle.std.proofs.lemmas.Bool.{cases_Bool, and_parts}
@@ -58,11 +58,6 @@ report_unheld k j n c ps o holds none =
     (All-append IsUnheld (numbered j 0 o.rest) (kept_part j (length o.rest) k o.kept) (numbered_unheld j 0 o.rest)
     (rw none (All-nil IsUnheld)))
 
--- one is found where a prefix is
-pub found_some : (c : List ℤ) (o : Option Pending) → prefix_of o ≡ Some c → o ≢ None
-found_some c None e = absurd (let bad : None ≡ Some c = e in cc)
-found_some c (Some q) e = λ none. (let bad : Some q ≡ None = none in cc)
-
 -- what is free and what is unheld are none
 pub none_pending : (ps : List Pending) → All (λ q. is_none q.holder ≡ false) ps → AreUnheld ps → ps ≡ []
 none_pending [] taken free = refl
@@ -70,20 +65,3 @@ none_pending (q ∷ ps) taken free =
     let none : q.holder ≡ None = All-head IsUnheld q ps free in
     let some : is_none q.holder ≡ false = All-head (λ r. is_none r.holder ≡ false) q ps taken in
     absurd (let bad : true ≡ false = rw none at some in cc)
-
--- how many are pending
-pub length-taken : (k : ℕ) (n : Number) (ps : List Pending) → length (edit_first (is_free n) (taken_by k) ps) ≡ length ps
-length-taken k n [] = refl
-length-taken k n (q ∷ ps) = elim (cases_Bool (is_free n q)) [
-  | inl e ↦ rw e refl
-  | inr e ↦ rw e (ap suc (length-taken k n ps))
-]
-
-pub length-taken_out : (test : Pending → Bool) (ps : List Pending) → find test ps ≢ None → length (edit_first test taken_out ps) < length ps
-length-taken_out test [] found = absurd (found refl)
-length-taken_out test (q ∷ ps) found = elim (cases_Bool (test q)) [
-  | inl e ↦ rw e (omega arith)
-  | inr e ↦
-      let rest = length-taken_out test ps (rw e at found) in
-      rw e (omega arith)
-]

@@ -3,3 +3,4 @@ mod Begin
 mod Held
 mod Lists
 mod Steps
+mod Weighed

@@ -1,18 +1,22 @@
 -- A book after one event more of the pass 0.
-use Rattle.std.proofs.Common.{◌≡◌, ℕ, suc, ◌+◌, ◌≤◌, ◌^◌, min, List, [], ◌∷◌, ◌++◌, length, ℤ, Option, Some, None, refl, sym, ap, subst, ◌∙◌, append-nil, append_assoc, arith}
+use Rattle.std.proofs.Common.{◌≡◌, ℕ, suc, ◌+◌, ◌<◌, ◌≤◌, ◌^◌, min, List, [], ◌∷◌, ◌++◌, length, ℤ, Option, Some, None, refl, sym, ap, subst, subst₂, ◌∙◌, append-nil, append_assoc}
 use Rattle.std.specs.List.{All, find}
 use Rattle.sat_terms.specs.Cubes.{IsCube}
+use Rattle.sat_terms.specs.declared.subject.Subject.{Subject}
+use Rattle.search_job.specs.Weights.{weight, weights}
 use Rattle.prefix_jobs.specs.declared.number.Number.{Number}
 use Rattle.prefix_jobs.specs.declared.outcome.Outcome.{Outcome}
+use Rattle.prefix_jobs.specs.Outcomes.{open_parts}
 use Rattle.region_book.specs.declared.event.Event.{Event}
 use Rattle.region_book.specs.declared.event.Event.TheVariants.{Take, Report, Release}
-use Rattle.region_book.specs.Machine.{BookState, Pending, is_free, is_held_by, edit_first, taken_out, parts_of, reported}
+use Rattle.region_book.specs.Machine.{BookState, Pending, is_free, is_held_by, edit_first, taken_out, parts_of, prefixes_of, reported}
 use Rattle.region_book.specs.Pages.{prefix_of}
 use Rattle.region_book.specs.Books.{BookView, state_of, with_event, TakesLowest}
-use Rattle.live_engine.specs.Engines.{EngineView, outcome_of}
+use Rattle.live_engine.specs.Engines.{EngineView, open_cubes, outcome_of, FitsJob}
 use Rattle.worker_loop.specs.Sweeps.{AreUnheld, GrowsFrom}
-use Rattle.worker_loop.specs.Jobs.{spent_with, HoldsOnly, IsInJob, TakesOne, HandsOver}
-use Rattle.worker_loop.proofs.Held.{take_holds, release_unheld, report_unheld, found_some, none_pending, length-taken, length-taken_out}
+use Rattle.worker_loop.specs.Jobs.{spent_with, pending_weight, HoldsOnly, IsInJob, TakesOne, HasCome, HandsOver}
+use Rattle.worker_loop.proofs.Held.{take_holds, release_unheld, report_unheld, none_pending}
+use Rattle.worker_loop.proofs.Weighed.{weight_taken, less_reported, less_open}
 use Rattle.region_book.proofs.Owned.{after_event}
 use Rattle.region_book.proofs.Prefixes.{found_over}
 
@@ -47,7 +51,9 @@ taken_one old new free over some (Some (n, c)) takes =
       holds = subst (λ (s : BookState). HoldsOnly 0 n c s.pending) (sym now) (take_holds 0 n c (state_of old).pending free found);
       cube = subst (λ (b : BookView). IsCube b.subject.shown c) (sym is) (found_over old.subject.formula.clauses old.subject.shown (is_free n) c (state_of old).pending over found);
       pass = subst (λ (b : BookView). 1 ≤ b.passes) (sym is) some;
-      count = ap (λ (s : BookState). length s.pending) now ∙ length-taken 0 n (state_of old).pending;
+      weight =
+          subst (λ (b : BookView). weights (length b.subject.shown) (prefixes_of (state_of new).pending) ≡ pending_weight old) (sym is)
+          (ap (λ (s : BookState). weights (length old.subject.shown) (prefixes_of s.pending)) now ∙ weight_taken (length old.subject.shown) (is_free n) 0 (state_of old).pending);
       spent = ap (λ (s : BookState). s.spent) now;
       grows = grows_event old new (Take 0 n) is;
     }
@@ -85,14 +91,23 @@ module _ (old new : BookView) (n : Number) (o : Outcome) (e : EngineView) (job :
       subst (λ (s : BookState). AreUnheld s.pending) (sym now_reported)
       (report_unheld 0 (suc (length old.journal)) n job.prefix (state_of old).pending o job.holds (ap (λ (x : Outcome). x.kept) told))
 
-  pub report_hands : HandsOver old new e
-  report_hands = record {
-    spent = ap (λ (s : BookState). s.spent) now_reported ∙ ap (λ (x : Outcome). spent_with (state_of old).spent x.leaves) told;
-    less = λ none.
-        let rest : o.rest ≡ [] = ap (λ (x : Outcome). x.rest) told ∙ none in
-        let kept : o.kept ≡ None = ap (λ (x : Outcome). x.kept) told in
-        let nothing : parts_of (suc (length old.journal)) 0 o ≡ [] = rw (rest, kept) refl in
-        let fewer = length-taken_out (is_held_by 0 n) (state_of old).pending (found_some job.prefix (find (is_held_by 0 n) (state_of old).pending) job.holds.held) in
-        let left = ap (λ (s : BookState). length s.pending) now_reported ∙ ap length (ap (λ x. edit_first (is_held_by 0 n) taken_out (state_of old).pending ++ x) nothing ∙ append-nil (edit_first (is_held_by 0 n) taken_out (state_of old).pending)) in
-        omega arith;
-  }
+  module _ (fits : FitsJob e) where
+    less_open_now : HasCome e → weights (length old.subject.shown) (open_parts o) < weight (length old.subject.shown) job.prefix
+    less_open_now come =
+        let weighs = (fits job.prefix job.job).weighs in
+        let left : open_parts o ≡ open_cubes e = ap open_parts told ∙ append-nil (open_cubes e) in
+        let same : length e.subject.shown ≡ length old.subject.shown = ap (λ (s : Subject). length s.shown) job.same in
+        subst₂ (λ m cs. weights m cs < weight m job.prefix) same (sym left)
+        (less_open (length e.subject.shown) job.prefix (open_cubes e) e.leaves
+        (subst (λ cs. weights (length e.subject.shown) cs + e.leaves ≤ weight (length e.subject.shown) job.prefix) (append-nil (open_cubes e)) weighs) come)
+
+    less_pending : HasCome e → pending_weight new < pending_weight old
+    less_pending come =
+        subst₂ (λ (b : BookView) (s : BookState). weights (length b.subject.shown) (prefixes_of s.pending) < pending_weight old) (sym is) (sym now_reported)
+        (less_reported (length old.subject.shown) (is_held_by 0 n) job.prefix (state_of old).pending (suc (length old.journal)) 0 o job.holds.held (less_open_now come))
+
+    pub report_hands : HandsOver old new e
+    report_hands = record {
+      spent = ap (λ (s : BookState). s.spent) now_reported ∙ ap (λ (x : Outcome). spent_with (state_of old).spent x.leaves) told;
+      less = less_pending;
+    }

@@ -1,5 +1,5 @@
 -- What a worker needs, what it keeps, and what it answers.
-use Rattle.std.specs.Prelude.{◌≡◌, ◌≢◌, ◌⊎◌, ℕ, ◌≤◌, true, List, [], length, Option, Some, None}
+use Rattle.std.specs.Prelude.{◌≡◌, ◌≢◌, ◌⊎◌, ℕ, ◌≤◌, true, List, [], ◌∷◌, length, ℤ, Option, Some, None}
 use Rattle.sat_terms.specs.Cubes.{IsCube}
 use Rattle.prefix_jobs.specs.declared.number.Number.{Number}
 use Rattle.prefix_jobs.specs.declared.number.Token.{Token}
@@ -64,6 +64,14 @@ LeavesToken place old new =
     (new ≡ bench_with_put old (given_token place))
     ⊎ ((new ≡ old) × (old.sure ≤ length old.hand.put))
 
--- Either nothing was given and the number stays, or the token of what was given is left.
-abbrev pub SharesUnder : Number → Number → BenchView → BenchView → Type 0
-SharesUnder n kept old new = ((kept ≡ n) × (new ≡ old)) ⊎ LeavesToken kept.place old new
+-- The number of the prefix that this report kept, behind the one that it gave away.
+abbrev pub kept_behind : ℕ → Number
+kept_behind place = record { place = place; index = 1 }
+
+-- Where nothing was untried nothing is given, and the number stays. Else the lowest untried prefix
+-- was given away by the report at this place, its token is left, and the job goes on under the
+-- number of the prefix that it kept.
+abbrev pub SharesUnder : List (List ℤ) → ℕ → Number → Number → BenchView → BenchView → Type 0
+SharesUnder [] place n kept old new = (kept ≡ n) × (new ≡ old)
+SharesUnder (given ∷ others) place n kept old new =
+    (kept ≡ kept_behind place) × LeavesToken place old new

@@ -1,6 +1,6 @@
 //! A worker gives while it works: a part of its job goes back to the ledger, and its token on the
 //! bench.
-ghost use Rattle.std.specs.Prelude.{◌≡◌, ◌≢◌, List, ℤ, None, Some, IfOk, IfErr};
+ghost use Rattle.std.specs.Prelude.{◌≡◌, ◌≢◌, List, ℤ, None, Some, IfOk, IfErr, length};
 ghost use Rattle.region_ledger.specs.Hands.{subject_of, holding};
 ghost use Rattle.worker_loop.specs.Workers.{IsAtWork, IsOffWork, LeavesToken, SharesUnder};
 
@@ -28,7 +28,8 @@ pub(crate) fn share<R: Wait, G: Gate>(
     requires { IsAtWork ledger.now pass.old.number number pass.old engine.old }
     ensures kept { IfOk result
         (λ kept. IsAtWork ledger.now pass.old.number kept pass.new engine.new) }
-    ensures shares { IfOk result (λ kept. SharesUnder number kept bench.old bench.new) }
+    ensures shares { IfOk result (λ kept. SharesUnder engine.old.untried (length pass.new.seen)
+        number kept bench.old bench.new) }
     ensures dropped { IfErr result
         (λ _. IsOffWork ledger.now pass.old.number pass.new engine.new) }
 {

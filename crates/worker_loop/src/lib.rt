@@ -6,6 +6,7 @@
 #![tactic(auto)]
 
 mod allowance;
+mod cutting;
 mod ending;
 mod fetching;
 mod gate;

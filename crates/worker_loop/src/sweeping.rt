@@ -1,16 +1,16 @@
 //! The sweep: one pass takes the prefixes of a book in turn, the lowest number first, and searches
 //! each of them by one engine.
-ghost use Rattle.std.specs.Prelude.{◌≡◌, ◌≢◌, ◌≤◌, ◌↔◌, ◌⊎◌, true, false, None, [], IfOk, IfErr};
+ghost use Rattle.std.specs.Prelude.{◌≡◌, ◌≢◌, ◌<◌, ◌≤◌, ◌↔◌, true, false, None, [], IfOk, IfErr};
 ghost use Rattle.std.specs.List.{All};
 ghost use Rattle.sat_terms.specs.Cubes.{IsCube};
-ghost use Rattle.live_engine.specs.Engines.{open_cubes};
 ghost use Rattle.region_book.specs.Books.{state_of};
 ghost use Rattle.worker_loop.specs.Sweeps.{AreUnheld, IsBetweenJobs, GrowsFrom, EndsSweep};
 ghost use Rattle.worker_loop.specs.Sweeps.{IsAllowed, is_spent};
 ghost use Rattle.worker_loop.specs.Jobs.{spent_with, HoldsOnly, IsInJob, TakesOne, HandsOver};
-ghost use Rattle.worker_loop.specs.Jobs.{HasLess};
+ghost use Rattle.worker_loop.specs.Jobs.{HasCome, pending_weight};
 
 use crate::allowance::{is_spent, spent_with};
+use crate::cutting::{forget_long, has_learnt_much};
 use live_engine::{Engine, Leaf};
 use prefix_jobs::Number;
 use region_book::{Book, Progress};
@@ -19,9 +19,6 @@ use std::alloc::AllocError;
 
 /// The number of the pass that sweeps.
 const SWEEPER: u32 = 0;
-
-/// Lemmas of at most so many literals are kept from job to job.
-pub(crate) const LONGEST_KEPT: usize = 8;
 
 /// How a sweep ended.
 #[derive(Clone, Copy, Debug, PartialEq, Eq)]
@@ -34,8 +31,9 @@ pub enum Swept {
 
 /// Searches what is pending, one prefix after another, until nothing is, or until as many leaves
 /// are spent in all as the allowance says; the search that comes to it is cut off, and what it has
-/// left open is pending. So it is at want of memory; where there is none left for that either,
-/// what the last search found is lost, and its prefix is pending as before.
+/// left open is pending. So is a search that has learnt much, whose rest is searched later. So it
+/// is at want of memory; where there is none left for that either, what the last search found is
+/// lost, and its prefix is pending as before.
 pub fn sweep(
     book: &mut Book,
     engine: &mut Engine,
@@ -54,7 +52,7 @@ pub fn sweep(
         let Some((number, prefix)) = take_lowest(book)? else {
             return Ok(Swept::Finished);
         };
-        engine.drop_lemmas(LONGEST_KEPT);
+        forget_long(engine);
         search_taken(book, engine, allowance, number, &prefix)?;
     }
     Ok(end_spent(book))
@@ -104,7 +102,7 @@ fn search_taken(
     requires same { engine.old.subject ≡ book.old.subject }
     requires pass { 1 ≤ book.old.passes }
     requires unspent { is_spent allowance (state_of book.old).spent ≡ false }
-    ensures less { IfOk result (λ _. HasLess allowance book.old book.new) }
+    ensures less { IfOk result (λ _. pending_weight book.new < pending_weight book.old) }
     ensures allowed { IsAllowed allowance (state_of book.new).spent }
     ensures rests { IsBetweenJobs book.new engine.new }
     ensures grows { GrowsFrom book.old book.new }
@@ -119,18 +117,20 @@ fn search_taken(
     searched
 }
 
-/// Goes on with the job from leaf to leaf, until nothing is left to try or the allowance is spent.
+/// Goes on with the job from leaf to leaf, until nothing is left to try, the allowance is spent, or
+/// the job is to be cut up.
 fn search(engine: &mut Engine, allowance: Option<u64>, spent: u64) -> Result<(), AllocError>
     requires runs { engine.old.job ≢ None }
     requires unspent { is_spent allowance (spent_with spent engine.old.leaves) ≡ false }
-    ensures ends { IfOk result (λ _. (open_cubes engine.new ≡ [])
-        ⊎ (is_spent allowance (spent_with spent engine.new.leaves) ≡ true)) }
+    ensures comes { IfOk result (λ _. HasCome engine.new) }
     ensures allowed { IsAllowed allowance (spent_with spent engine.new.leaves) }
     ensures job { engine.new.job ≡ engine.old.job }
     ensures subject { engine.new.subject ≡ engine.old.subject }
 {
+    let before = engine.lemmas();
     while engine.leaf()? != Leaf::Ended {
-        if is_spent(allowance, spent_with(spent, engine.leaves())) {
+        let is_over = is_spent(allowance, spent_with(spent, engine.leaves()));
+        if is_over || has_learnt_much(engine, before) {
             return Ok(());
         }
     }

@@ -6,13 +6,13 @@ ghost use Rattle.region_ledger.specs.Hands.{subject_of, holding};
 ghost use Rattle.worker_loop.specs.Workers.{HasInHand, IsAtWork, IsOffWork, EndsWork, EndsOrNot};
 
 use crate::allowance::{is_spent, spent_with};
+use crate::cutting::{forget_long, has_learnt_much};
 use crate::ending::{drop_job, hand_in};
 use crate::fetching::{fetch_lemmas, send_lemmas};
 use crate::gate::{Gate, Point};
 use crate::giving::share;
 use crate::next::{Next, find_next};
 use crate::stop::Stop;
-use crate::sweeping::LONGEST_KEPT;
 use crate::worked::Worked;
 use clause_exchange::Post;
 use live_engine::{Engine, Leaf};
@@ -23,6 +23,9 @@ use std::alloc::AllocError;
 use std::sync::Wait;
 use std::thread;
 use steal_pool::Bench;
+
+/// So often a hungry worker looks for a token before it asks the ledger again.
+const MOST_LOOKS: u32 = 32;
 
 /// Works with the others that share the ledger, the pool, the exchange, the gate and the stop.
 ///
@@ -84,12 +87,24 @@ fn do_jobs<R: Wait, G: Gate>(
             }
             Next::Hungry => {
                 bench.hungry(true);
-                thread::yield_now();
+                await_token(rt, bench);
             }
             Next::Ends(worked) => return worked,
         }
     }
     unreachable!()
+}
+
+/// Lets the others go on until one of them has left a token, for a while at most. The token lies on
+/// its own bench then; where that has no room it is lost, and its prefix is found by its number.
+fn await_token<R: Wait>(rt: &R, bench: &mut Bench) {
+    for _ in 0..MOST_LOOKS {
+        thread::yield_now();
+        if let Some(token) = bench.steal(rt) {
+            let _ = bench.put(token);
+            return;
+        }
+    }
 }
 
 /// Starts a job, with what the others sent.
@@ -105,13 +120,14 @@ fn begin_job<R: Wait>(
     ensures idle { IfErr result (λ _. engine.new.job ≡ None) }
     ensures same { engine.new.subject ≡ engine.old.subject }
 {
-    engine.drop_lemmas(LONGEST_KEPT);
+    forget_long(engine);
     fetch_lemmas(rt, engine, post)?;
     engine.start(prefix)
 }
 
-/// Goes on with the job from leaf to leaf, until it is handed in or there is no memory. `spent` is
-/// what the last report of this worker answered.
+/// Goes on with the job from leaf to leaf, until it is handed in or there is no memory. Where it
+/// has learnt much it is handed in with what it left open. `spent` is what the last report of this
+/// worker answered.
 fn do_job<R: Wait, G: Gate>(
     rt: &R,
     engine: &mut Engine,
@@ -128,6 +144,7 @@ fn do_job<R: Wait, G: Gate>(
     ensures off { IsOffWork ledger.now pass.old.number pass.new engine.new }
     ensures ends { EndsOrNot ledger.now stop.now pass.new result }
 {
+    let before = engine.lemmas();
     for _ in rt.forever() {
         let leaf = match engine.leaf() {
             Ok(leaf) => leaf,
@@ -143,15 +160,16 @@ fn do_job<R: Wait, G: Gate>(
             Ok(kept) => number = kept,
             Err(error) => return Some(Worked::OutOfMemory(error)),
         }
-        if stop.asked() || is_spent(stop.budget(), spent_with(*spent, engine.leaves())) {
+        let is_over = stop.asked() || is_spent(stop.budget(), spent_with(*spent, engine.leaves()));
+        if is_over || has_learnt_much(engine, before) {
             return hand_in(rt, engine, ledger, pass, stop, number, spent);
         }
     }
     unreachable!()
 }
 
-/// What a worker does for the others at a leaf: it sends its lemmas, and gives where one is hungry.
-/// Tells under which number the job goes on.
+/// What a worker does for the others at a leaf: it sends its lemmas, and gives where one is hungry
+/// and what it gave before is taken. Tells under which number the job goes on.
 fn leave_leaf<R: Wait, G: Gate>(
     rt: &R,
     engine: &mut Engine,
@@ -171,7 +189,7 @@ fn leave_leaf<R: Wait, G: Gate>(
 {
     gate.at(pass.number(), Point::Leaf);
     send_lemmas(engine, post);
-    if !bench.anyone_hungry() {
+    if !bench.anyone_hungry() || !bench.is_empty() {
         return Ok(number);
     }
     share(rt, engine, ledger, pass, bench, gate, number, spent)

@@ -491,8 +491,8 @@ fn fetch_at<R: Wait>(rt: &R, crew: &mut Crew, place: usize) -> Option<Lemma>
     crew.members[place].post.fetch(rt)
 }
 
-/// Lets worker 0 work alone, where worker 1 has offered this lemma or none. Gives the book, and what
-/// arrived at worker 1.
+/// Lets worker 0 work alone, where worker 1 has offered this lemma or none. Gives the book, and
+/// what arrived at worker 1.
 fn work_beside<R: Abort + Wait>(
     rt: &R,
     alloc: Global,

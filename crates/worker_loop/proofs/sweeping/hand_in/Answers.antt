@@ -27,6 +27,7 @@ returns-in-Err-report-clause-rests c =
 pub returns-clause-reports : goal.returns-clause-reports
 returns-clause-reports c =
     report_hands c.args.book.now c.report.new.self c.args.number c.in-Ok.outcome c.args.engine.now c.requires.job c.in-Ok.ensures.outcome c.in_default.ensures.reports.event
+    c.in-Ok.ensures.fits
 
 pub returns-clause-rests : goal.returns-clause-rests
 returns-clause-rests c =

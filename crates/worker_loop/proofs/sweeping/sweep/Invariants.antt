@@ -1,6 +1,7 @@
-use Rattle.std.proofs.Common.{◌≡◌, true, cond, suc, length}
+use Rattle.std.proofs.Common.{◌≡◌, true}
 use Rattle.region_book.specs.Books.{state_of}
 use Rattle.worker_loop.specs.Sweeps.{is_spent, IsAllowed, IsBetweenJobs, GrowsFrom}
+use Rattle.worker_loop.specs.Jobs.{pending_weight}
 use Rattle.worker_loop.proofs.sweeping.sweep.Given as goal
 
 abbrev pub invariant-loop-allowance : goal.invariant-loop-allowance
@@ -12,4 +13,4 @@ invariant-loop-allowance l = record {
 }
 
 abbrev pub decreases-loop-allowance : goal.decreases-loop-allowance
-decreases-loop-allowance l = cond (is_spent l.allowance (state_of l.book).spent) 0 (suc (length (state_of l.book).pending))
+decreases-loop-allowance l = pending_weight l.book
