@@ -1,37 +1,20 @@
 -- What is read of a source and the check of it are what a run of the check promises.
-use Rattle.std.proofs.Common.{◌≡◌, ◌≢◌, ◌⊎◌, ℕ, List, ℤ, Option, Some, None, Ok, Err, refl, sym, subst, inl, inr}
+use Rattle.std.proofs.Common.{◌≡◌, ◌≢◌, ◌⊎◌, ℕ, List, ℤ, Option, Some, None, Ok, refl, sym, subst, inl, inr}
 use Rattle.fault_io.specs.Sources.{SourceView}
 use Rattle.fault_io.specs.Sinks.{SinkView}
 use Rattle.cube_check.specs.declared.met.Met.{Met}
 use Rattle.cube_check.specs.declared.verdict.Verdict.{Verdict}
 use Rattle.cube_check.specs.declared.verdict.Verdict.TheVariants.{Right, NotMet, Overlap}
 use Rattle.dimacs_front.specs.declared.input.Input.{Input}
-use Rattle.dimacs_front.specs.declared.refused.TextRefused.{TextRefused}
-use Rattle.dimacs_front.specs.declared.refused.TextRefused.TheVariants.{NoMetText}
-use Rattle.dimacs_front.specs.declared.refused.ReadRefused.TheVariants.{Text}
-use Rattle.dimacs_front.specs.Answers.{ReadsText, TellsText, IsInput, IsWithinLimits, IsMetOf}
+use Rattle.dimacs_front.specs.Answers.{ReadsText, IsWithinLimits, IsMetOf}
 use Rattle.region_book.specs.Arranged.{ArrangedView}
 use Rattle.cube_check.specs.Verdicts.{IsVerdict}
 use Rattle.allsat_run.specs.declared.status.Status.{Status}
-use Rattle.allsat_run.specs.declared.status.Status.TheVariants.{Finished, InputRefused, OutOfMemory, WriteFault, CheckedNo}
+use Rattle.allsat_run.specs.declared.status.Status.TheVariants.{Finished, OutOfMemory, WriteFault, CheckedNo}
 use Rattle.allsat_run.specs.Run.{CountsReadFault}
 use Rattle.allsat_run.specs.Checking.{status_of, WritesVerdict, ChecksMet, ChecksLines, ChecksInput, Judges, SaysCheck, AnswersCheck}
 
 module _ {S K : Type 0} (source : S → SourceView) (sink : K → SinkView) (input input' : S) where
-  -- a text that is refused
-  pub check_refused : (out : K) (refused : TextRefused) (status : Status) (book : Option ArrangedView) →
-      ReadsText (source input) (source input') (Err (Text refused)) → TellsText (source input).left (Err (Text refused)) →
-      status ≡ InputRefused refused → book ≡ None → AnswersCheck source sink input input' out out status book
-  check_refused out refused status book reads tells is alone =
-      subst (λ s. AnswersCheck source sink input input' out out s book) (sym is) (record {
-        taken = reads.bytes;
-        consumed = reads.consumed;
-        asked = reads.asked;
-        counted = reads.counted;
-        says = (inl (record { by_taken = reads.says; by_all = tells }), refl);
-        alone = alone;
-      })
-
   -- a text that says an input
   module _ (out out' : K) (said : Input) (reads : ReadsText (source input) (source input') (Ok said)) (limits : IsWithinLimits said)
       (of : IsMetOf said.subject.formula.variables said.subject.shown said.subject.under said.met) where

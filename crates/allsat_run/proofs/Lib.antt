@@ -5,4 +5,5 @@ pub mod Jobs
 pub mod NoteLemmas
 pub mod Resumed
 pub mod Searches
+pub mod Unread
 pub mod WriteEnds

@@ -84,8 +84,10 @@ fn cubes_that_overlap_need_not_be_neighbours(rt: HostRuntime) -> Result<(), Fail
         second: 3,
     };
     let texts: [&[u8]; 2] = [
-        b"c allsat met 1\np cnf 3 0\nc p met -1 2 0 0\nc p met 1 -2 0 0\nc p met 2 3 0 0\nc p end\n",
-        b"c allsat met 1\np cnf 3 0\nc p met 2 3 0 0\nc p met 1 -2 0 0\nc p met -1 2 0 0\nc p end\n",
+        b"c allsat met 1\np cnf 3 0\nc p met -1 2 0 0\nc p met 1 -2 0 0\nc p met 2 3 0 0\n\
+            c p end\n",
+        b"c allsat met 1\np cnf 3 0\nc p met 2 3 0 0\nc p met 1 -2 0 0\nc p met -1 2 0 0\n\
+            c p end\n",
     ];
     for text in texts {
         assert!(rt; comes_to(&rt, text, no, b"s OVERLAP 1 3\n")?);

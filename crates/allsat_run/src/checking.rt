@@ -4,14 +4,16 @@ ghost use Rattle.dimacs_front.specs.Answers.{IsWithinLimits, IsMetOf};
 ghost use Rattle.allsat_run.specs.Checking.{AnswersCheck, CompletesCheck};
 ghost use Rattle.allsat_run.specs.Checking.{ChecksInput, WritesVerdict};
 
+use crate::reading::read_input;
 use crate::{Ended, Status};
 use cube_check::{Verdict, check_listing, write_verdict};
-use dimacs_front::{Input, ReadRefused, TextRefused, read_subject};
+use dimacs_front::{Input, TextRefused};
 use fault_io::{Sink, Source};
 use std::alloc::Global;
 
 /// Reads a met text, checks its cubes and writes the verdict, on the calling thread. Any other text
 /// is refused.
+#[tactic(auto, using(crate::proofs::Unread::check_unread, crate::proofs::Unread::check_completes_unread, crate::proofs::Unread::no_words))]
 pub(crate) fn check_alone<S: Source, K: Sink>(alloc: Global, input: &mut S, out: &mut K) -> Ended
     ensures words { result.status ≢ Status.WordsRefused }
     ensures answers { AnswersCheck S.shows K.shows input.old input.new out.old out.new
@@ -19,11 +21,9 @@ pub(crate) fn check_alone<S: Source, K: Sink>(alloc: Global, input: &mut S, out:
     ensures complete { CompletesCheck S.shows K.shows input.old input.new out.old out.new
         result.status }
 {
-    let input = match read_subject(alloc, input) {
+    let input = match read_input(alloc, input) {
         Ok(input) => input,
-        Err(ReadRefused::Text(refused)) => return Ended::alone(Status::InputRefused(refused)),
-        Err(ReadRefused::ReadFault(line)) => return Ended::alone(Status::ReadFault(line)),
-        Err(ReadRefused::OutOfMemory(_)) => return Ended::alone(Status::OutOfMemory),
+        Err(status) => return Ended::alone(status),
     };
     Ended::alone(check_input(alloc, input, out))
 }

@@ -8,12 +8,12 @@ ghost use Rattle.command_words.specs.Commands.{command_of};
 
 use crate::checking::check_alone;
 use crate::drilling::run_drill;
+use crate::reading::read_input;
 use crate::search::{Searched, search, search_alone};
 use crate::{Ended, Status, write_note};
 use checkpoint::write_saved;
-use command_words::{Command, Words, read_words};
+use command_words::{Command, Words, WordsFault, read_words};
 use cube_text::write_listing;
-use dimacs_front::{ReadRefused, read_subject};
 use fault_io::{Sink, Source, WriteFault};
 use region_book::ArrangedBook;
 use std::alloc::Global;
@@ -24,9 +24,9 @@ use worker_loop::Gate;
 /// Does all that the program does: reads the words, then the input, enumerates, and writes the
 /// listing, or the saved text of a run that stopped, to `out`, and the line of the status to
 /// `notes`. A drill takes no input, and its summary stands in place of the listing. A check writes
-/// its verdict on a met text. `words` are the words after the program's name. One worker is the calling thread, which then waits for nobody;
-/// of more workers each has a thread where one can be had. All of them pass the gate, which changes
-/// nothing.
+/// its verdict on a met text. `words` are the words after the program's name. One worker is the
+/// calling thread, which then waits for nobody; of more workers each has a thread where one can be
+/// had. All of them pass the gate, which changes nothing.
 #[tactic(auto, using(dimacs_front::proofs::Taking::nothing_asked))]
 pub fn run<R: Threads + Wait + Sync, S: Source, K: Sink, N: Sink, G: Gate + Sync>(
     rt: &R,
@@ -44,19 +44,21 @@ pub fn run<R: Threads + Wait + Sync, S: Source, K: Sink, N: Sink, G: Gate + Sync
         out.old out.new result.status }
     ensures notes { Notes N.shows notes.old notes.new result.status }
 {
-    let ended = match read_words(words) {
-        Some(Command::Enumerate { workers, budget }) => {
+    let ended = match read_words(alloc, words) {
+        Ok(Command::Enumerate { workers, budget }) => {
             enumerate(rt, alloc, input, out, workers, budget, gate)
         }
-        Some(Command::Check) => check_alone(alloc, input, out),
-        Some(Command::Drill { size, workers }) => run_drill(rt, alloc, size, workers, out, gate),
-        None => Ended::alone(Status::WordsRefused),
+        Ok(Command::Check) => check_alone(alloc, input, out),
+        Ok(Command::Drill { size, workers }) => run_drill(rt, alloc, size, workers, out, gate),
+        Err(WordsFault::Refused) => Ended::alone(Status::WordsRefused),
+        Err(WordsFault::OutOfMemory) => Ended::alone(Status::OutOfMemory),
     };
     write_note(&ended.status, notes);
     ended
 }
 
 /// Reads the input, enumerates by so many workers, and writes the listing, or the saved text.
+#[tactic(auto, using(crate::proofs::Unread::answers_unread, crate::proofs::Unread::completes_unread, crate::proofs::Unread::no_words))]
 fn enumerate<R: Threads + Wait + Sync, S: Source, K: Sink, G: Gate + Sync>(
     rt: &R,
     alloc: Global,
@@ -74,11 +76,9 @@ fn enumerate<R: Threads + Wait + Sync, S: Source, K: Sink, G: Gate + Sync>(
     ensures complete { Completes S.shows K.shows input.old input.new budget out.old out.new
         result.status }
 {
-    let input = match read_subject(alloc, input) {
+    let input = match read_input(alloc, input) {
         Ok(input) => input,
-        Err(ReadRefused::Text(refused)) => return Ended::alone(Status::InputRefused(refused)),
-        Err(ReadRefused::ReadFault(line)) => return Ended::alone(Status::ReadFault(line)),
-        Err(ReadRefused::OutOfMemory(_)) => return Ended::alone(Status::OutOfMemory),
+        Err(status) => return Ended::alone(status),
     };
     match search(rt, alloc, input, workers, budget, gate) {
         Ok(searched) => write_out(searched, out),
@@ -88,6 +88,7 @@ fn enumerate<R: Threads + Wait + Sync, S: Source, K: Sink, G: Gate + Sync>(
 
 /// Reads the input, enumerates and writes the listing, or the saved text, on the calling thread. It
 /// waits for nobody and always returns. The budget is a number of leaves, which no run goes beyond.
+#[tactic(auto, using(crate::proofs::Unread::answers_unread, crate::proofs::Unread::completes_unread, crate::proofs::Unread::no_words))]
 pub fn enumerate_alone<S: Source, K: Sink>(
     alloc: Global,
     input: &mut S,
@@ -100,11 +101,9 @@ pub fn enumerate_alone<S: Source, K: Sink>(
     ensures complete { Completes S.shows K.shows input.old input.new budget out.old out.new
         result.status }
 {
-    let input = match read_subject(alloc, input) {
+    let input = match read_input(alloc, input) {
         Ok(input) => input,
-        Err(ReadRefused::Text(refused)) => return Ended::alone(Status::InputRefused(refused)),
-        Err(ReadRefused::ReadFault(line)) => return Ended::alone(Status::ReadFault(line)),
-        Err(ReadRefused::OutOfMemory(_)) => return Ended::alone(Status::OutOfMemory),
+        Err(status) => return Ended::alone(status),
     };
     match search_alone(alloc, input, budget) {
         Ok(searched) => write_out(searched, out),

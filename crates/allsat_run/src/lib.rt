@@ -13,6 +13,8 @@ mod drawn;
 mod drill_tests;
 mod drilling;
 mod enumerate;
+#[cfg(test)]
+mod fault_tests;
 pub mod laws;
 mod notes;
 #[cfg(test)]
@@ -21,6 +23,7 @@ mod one_job;
 mod pieces;
 #[cfg(test)]
 mod random_tests;
+mod reading;
 #[cfg(test)]
 mod resume_tests;
 #[cfg(test)]

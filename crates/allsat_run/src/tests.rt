@@ -1,4 +1,4 @@
-//! Whole runs over memory: the listings of worked examples byte for byte, and faults in mid-stream.
+//! Whole runs over memory: the listings of worked examples byte for byte, and refused texts.
 use crate::{Ended, OpenGate, Status, TextRefused, Words, run};
 use fault_io::{BytesIn, BytesOut};
 use std::alloc::{AllocError, Global};
@@ -21,29 +21,17 @@ fn enumerate(alloc: Global) -> Result<Words, AllocError> {
     Ok(words)
 }
 
-/// Runs `enumerate` on a text, with a source and a sink that move four bytes a call and fail at
-/// these calls.
-fn run_with_faults<R: Threads + Wait + Sync + AllocGlobal>(
-    rt: &R,
-    text: &[u8],
-    in_fails: &[u64],
-    out_fails: &[u64],
-    room: usize,
-) -> Result<Ran, AllocError> {
+/// Runs `enumerate` on a text, with streams that move a few bytes a call.
+fn run_on<R: Threads + Wait + Sync + AllocGlobal>(rt: &R, text: &[u8]) -> Result<Ran, AllocError> {
     let alloc = rt.alloc();
     let words = enumerate(alloc)?;
-    let mut input = BytesIn::make(text.to_vec(alloc)?, 4, in_fails.to_vec(alloc)?);
-    let mut out = BytesOut::make(alloc, room, 4, out_fails.to_vec(alloc)?)?;
+    let mut input = BytesIn::make(text.to_vec(alloc)?, 4, Vec::new(alloc));
+    let mut out = BytesOut::make(alloc, 1000, 4, Vec::new(alloc))?;
     let mut notes = BytesOut::make(alloc, 200, 7, Vec::new(alloc))?;
     let ended = run(
         rt, alloc, &words, &mut input, &mut out, &mut notes, &OpenGate,
     );
     Ok(Ran { ended, out, notes })
-}
-
-/// Runs `enumerate` on a text without faults.
-fn run_on<R: Threads + Wait + Sync + AllocGlobal>(rt: &R, text: &[u8]) -> Result<Ran, AllocError> {
-    run_with_faults(rt, text, &[], &[], 1000)
 }
 
 /// Whether the run finished with just this listing and no note.
@@ -281,67 +269,5 @@ fn words_that_are_no_command_are_refused(rt: HostRuntime) -> Result<(), Fail> {
         assert_eq!(rt; out.bytes().len(), 0);
         assert_eq!(rt; notes.bytes(), b"allsat: words refused\n".as_slice());
     }
-    Ok(())
-}
-
-const TEXT: &[u8] = b"p cnf 2 1\n1 2 0\n";
-
-const LISTING: &[u8] = b"v -1 2 0\nv 1 0\ns ALL\n";
-
-#[test]
-fn a_write_that_fails_leaves_the_bytes_accepted_before(rt: HostRuntime) -> Result<(), Fail> {
-    // 21 bytes by four are six calls, and `finish` is the seventh.
-    for call in 1u64..8 {
-        let ran = run_with_faults(&rt, TEXT, &[], &[call], 1000)?;
-        let accepted = LISTING.len().min(4 * (call as usize - 1));
-        assert_eq!(rt; ran.ended.status, Status::WriteFault, "call {call}");
-        assert_eq!(rt; ran.ended.status.code(), 6);
-        assert_eq!(rt; ran.out.bytes(), &LISTING[..accepted]);
-        assert_eq!(rt; ran.notes.bytes(), b"allsat: write fault\n".as_slice());
-    }
-    Ok(())
-}
-
-#[test]
-fn a_full_sink_holds_what_it_had_room_for(rt: HostRuntime) -> Result<(), Fail> {
-    let ran = run_with_faults(&rt, TEXT, &[], &[], 8)?;
-    assert_eq!(rt; ran.ended.status, Status::WriteFault);
-    assert_eq!(rt; ran.out.bytes(), b"v -1 2 0".as_slice());
-    Ok(())
-}
-
-#[test]
-fn a_read_that_fails_writes_nothing(rt: HostRuntime) -> Result<(), Fail> {
-    // Four bytes a call: the first line ends with the third call. The fifth call finds the end.
-    for (call, line) in [(1u64, 1u64), (2, 1), (3, 1), (4, 2), (5, 3)] {
-        let ran = run_with_faults(&rt, TEXT, &[call], &[], 1000)?;
-        assert_eq!(rt; ran.ended.status, Status::ReadFault(line), "call {call}");
-        assert_eq!(rt; ran.ended.status.code(), 5);
-        assert_eq!(rt; ran.out.bytes().len(), 0);
-    }
-    let ran = run_with_faults(&rt, TEXT, &[2], &[], 1000)?;
-    assert_eq!(rt;
-        ran.notes.bytes(),
-        b"allsat: read fault line 1\n".as_slice()
-    );
-    Ok(())
-}
-
-#[test]
-fn notes_that_fail_change_nothing_else(rt: HostRuntime) -> Result<(), Fail> {
-    let alloc = rt.alloc();
-    let words = enumerate(alloc)?;
-    let mut input = BytesIn::make(b"1 0\n".to_vec(alloc)?, 4, Vec::new(alloc));
-    let mut out = BytesOut::make(alloc, 100, 4, Vec::new(alloc))?;
-    let mut notes = BytesOut::make(alloc, 100, 4, [1u64].to_vec(alloc)?)?;
-    let ended = run(
-        &rt, alloc, &words, &mut input, &mut out, &mut notes, &OpenGate,
-    );
-    assert_eq!(rt;
-        ended.status,
-        Status::InputRefused(TextRefused::BadStart { line: 1 })
-    );
-    assert_eq!(rt; out.bytes().len(), 0);
-    assert_eq!(rt; notes.bytes().len(), 0);
     Ok(())
 }

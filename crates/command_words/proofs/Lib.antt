@@ -1,1 +1,5 @@
 mod Digits
+pub mod Uses
+pub mod Walks
+pub mod Numbers
+pub mod Takings

@@ -1,10 +1,14 @@
 //! The command of a list of words.
-ghost use Rattle.std.specs.Prelude.{◌≡◌, IfSome, map, string_bytes};
-ghost use Rattle.command_words.specs.Commands.{command_of, enumerate_by, check_by, drill_by, options_of};
-ghost use Rattle.command_words.specs.Commands.{HasRanges, IsInRange};
+ghost use Rattle.std.specs.Prelude.{◌≡◌, ◌↔◌, Err, IfOk, IfSome, IsSome, None, Some};
+ghost use Rattle.std.specs.Prelude.{is_some, map, string_bytes};
+ghost use Rattle.command_words.specs.Commands.{HasRanges, IsInRange, check_by, command_of};
+ghost use Rattle.command_words.specs.Commands.{options_of};
+ghost use Rattle.command_words.specs.Options.{drill_of, enumerate_of};
 
-use crate::Words;
+use crate::parsing::{parse_check, parse_drill, parse_enumerate};
 use crate::reading::Reading;
+use crate::{Words, WordsFault};
+use std::alloc::Global;
 
 /// What the program is to do.
 #[derive(Clone, Copy, Debug, PartialEq, Eq)]
@@ -27,22 +31,65 @@ pub enum Command {
     },
 }
 
-/// The command that the words make. None where they make none. It takes no memory.
-pub fn read_words(words: &Words) -> Option<Command>
-    ensures command { result ≡ command_of words.now }
-    ensures ranges { IfSome result IsInRange }
+/// The command that the words make. Words that make none are refused before any memory is asked
+/// for, so `OutOfMemory` says that they make one.
+pub fn read_words(alloc: Global, words: &Words) -> Result<Command, WordsFault>
+    ensures command { IfOk result (λ c. command_of words.now ≡ Some c) }
+    ensures refused { (result ≡ Err WordsFault.Refused) ↔ (command_of words.now ≡ None) }
+    ensures ranges { IfOk result IsInRange }
 {
-    let (first, options) = words.as_slice().split_first()?;
+    let Some((first, options)) = words.as_slice().split_first() else {
+        return Err(WordsFault::Refused);
+    };
     if first.as_str() == "enumerate" {
-        return enumerate_by(read_options(options)?);
+        return read_enumerate(alloc, options);
     }
     if first.as_str() == "check" {
-        return check_by(options);
+        return read_check(alloc, options);
     }
     if first.as_str() == "drill" {
-        return drill_by(read_options(options)?);
+        return read_drill(alloc, options);
     }
-    None
+    Err(WordsFault::Refused)
+}
+
+/// The command to enumerate, by the words behind its name.
+fn read_enumerate(alloc: Global, words: &[String]) -> Result<Command, WordsFault>
+    ensures command { IfOk result (λ c. enumerate_of (map string_bytes words.now) ≡ Some c) }
+    ensures refused { (result ≡ Err WordsFault.Refused)
+        ↔ (enumerate_of (map string_bytes words.now) ≡ None) }
+    ensures ranges { IfOk result IsInRange }
+{
+    if !makes_enumerate(words) {
+        return Err(WordsFault::Refused);
+    }
+    parse_enumerate(alloc, words)
+}
+
+/// The command to check, by the words behind its name.
+fn read_check(alloc: Global, words: &[String]) -> Result<Command, WordsFault>
+    ensures command { IfOk result (λ c. check_by (map string_bytes words.now) ≡ Some c) }
+    ensures refused { (result ≡ Err WordsFault.Refused)
+        ↔ (check_by (map string_bytes words.now) ≡ None) }
+    ensures ranges { IfOk result IsInRange }
+{
+    if !words.is_empty() {
+        return Err(WordsFault::Refused);
+    }
+    parse_check(alloc, words)
+}
+
+/// The command to drill, by the words behind its name.
+fn read_drill(alloc: Global, words: &[String]) -> Result<Command, WordsFault>
+    ensures command { IfOk result (λ c. drill_of (map string_bytes words.now) ≡ Some c) }
+    ensures refused { (result ≡ Err WordsFault.Refused)
+        ↔ (drill_of (map string_bytes words.now) ≡ None) }
+    ensures ranges { IfOk result IsInRange }
+{
+    if !makes_drill(words) {
+        return Err(WordsFault::Refused);
+    }
+    parse_drill(alloc, words)
 }
 
 /// What the options say. None where one of them is none.
@@ -57,46 +104,26 @@ fn read_options(words: &[String]) -> Option<Reading>
     Some(reading)
 }
 
-/// The command to enumerate. None where the last option lacks its number, or a size is given.
-fn enumerate_by(reading: Reading) -> Option<Command>
-    requires { HasRanges reading }
-    ensures command { result ≡ enumerate_by reading }
-    ensures ranges { IfSome result IsInRange }
+/// Whether a command to enumerate has these words behind its name: the last option has its number,
+/// and there is no size.
+fn makes_enumerate(words: &[String]) -> bool
+    ensures { result ≡ is_some (enumerate_of (map string_bytes words.now)) }
 {
-    if reading.waiting.is_some() || reading.size.is_some() {
-        return None;
-    }
-    Some(Command::Enumerate {
-        workers: reading.workers.unwrap_or(1),
-        budget: reading.budget,
-    })
-}
-
-/// The command to check, which has no options.
-fn check_by(words: &[String]) -> Option<Command>
-    ensures command { result ≡ check_by (map string_bytes words.now) }
-    ensures ranges { IfSome result IsInRange }
-{
-    if words.is_empty() {
-        Some(Command::Check)
-    } else {
-        None
+    match read_options(words) {
+        Some(reading) => reading.waiting.is_none() && reading.size.is_none(),
+        None => false,
     }
 }
 
-/// The command to drill. None where the last option lacks its number, a budget is given, or no size
-/// is.
-fn drill_by(reading: Reading) -> Option<Command>
-    requires { HasRanges reading }
-    ensures command { result ≡ drill_by reading }
-    ensures ranges { IfSome result IsInRange }
+/// Whether a command to drill has these words behind its name: the last option has its number, and
+/// there is a size and no budget.
+fn makes_drill(words: &[String]) -> bool
+    ensures { result ≡ is_some (drill_of (map string_bytes words.now)) }
 {
-    if reading.waiting.is_some() || reading.budget.is_some() {
-        return None;
+    match read_options(words) {
+        Some(reading) => {
+            reading.waiting.is_none() && reading.budget.is_none() && reading.size.is_some()
+        }
+        None => false,
     }
-    let size = reading.size?;
-    Some(Command::Drill {
-        size,
-        workers: reading.workers.unwrap_or(1),
-    })
 }

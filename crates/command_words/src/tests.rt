@@ -1,15 +1,19 @@
 //! The words that make a command and those that make none, word for word.
-use crate::{Command, Words, read_words};
-use std::alloc::{AllocError, Global};
+use crate::{Command, Words, WordsFault, read_words};
+use std::alloc::Global;
 use std::test::Fail;
 
 /// The command that these words make.
-fn command_of(alloc: Global, texts: &[&str]) -> Result<Option<Command>, AllocError> {
+fn command_of(alloc: Global, texts: &[&str]) -> Result<Option<Command>, Fail> {
     let mut words = Words::make(alloc);
     for text in texts {
         words.push(text)?;
     }
-    Ok(read_words(&words))
+    match read_words(alloc, &words) {
+        Ok(command) => Ok(Some(command)),
+        Err(WordsFault::Refused) => Ok(None),
+        Err(fault) => Err(Fail::from(fault)),
+    }
 }
 
 fn drill(size: u32, workers: u32) -> Option<Command> {
