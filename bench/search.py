@@ -2,6 +2,7 @@
 """Times the program's search, formula by formula.
 
     bench/search.py [--limit SECONDS] [--no-count] [FORMULA..]
+    bench/search.py --workers [--limit SECONDS] [FORMULA..]
 
 Each formula (a DIMACS text; where none is named, those of bench/formulas and the families below)
 is listed once by the program, for at most so many seconds, 60 where nothing else is said. Printed
@@ -21,6 +22,11 @@ The families, made in a folder of its own that is taken away at the end:
   pigeons    pigeons into one hole less: no solution
   products   a space of configurations: features in groups, of which one each is chosen, with
              demands between them, and helper variables hidden
+
+With --workers each formula (where none is named, larger ones of these families, and clauses of which
+few variables are shown, which are hard to meet) is listed by 1, 2 and 4 workers in turn. Printed are,
+for each number of workers, the seconds of the clock, those of the processors, and the cubes. Run it
+on a machine that does nothing else: the seconds of the clock tell little where processors are busy.
 """
 import argparse
 import os
@@ -44,7 +50,7 @@ PROGRAM = str(TOP / "crates" / "allsat_cli" / "out" / "build" / "allsat")
 TOO_LONG = 124  # the status of `timeout` where it ended what it ran
 HEADS = ("formula", "cubes", "seconds", "MB", "M instr.", "points", "clasp")
 
-Run = namedtuple("Run", "status seconds memory output notes")
+Run = namedtuple("Run", "status seconds processor memory output notes")
 
 
 class Circuit:
@@ -77,13 +83,13 @@ class Circuit:
         return -self.both(-left, -right)
 
 
-def random_clauses(variables, count):
+def random_clauses(variables, count, chosen=None):
     choose = random.Random(1)
     clauses = []
     for _ in range(count):
         named = choose.sample(range(1, variables + 1), 3)
         clauses.append([choose.choice((1, -1)) * variable for variable in named])
-    return variables, clauses, None
+    return variables, clauses, chosen and list(range(1, chosen + 1))
 
 
 def chains(count, length):
@@ -144,6 +150,8 @@ def products(groups, size, demands):
     return features + demands, clauses, list(range(1, features + 1))
 
 
+WORKERS = ("1", "2", "4")
+
 FAMILIES = {
     "random-28": lambda: random_clauses(28, 56),
     "random-60": lambda: random_clauses(60, 240),
@@ -152,6 +160,20 @@ FAMILIES = {
     "parity-16": lambda: parity(16),
     "pigeons-6": lambda: pigeons(6),
     "products-8": lambda: products(8, 5, 24),
+}
+
+# Harder ones, for several workers.
+LARGE = {
+    "hard-90": lambda: random_clauses(90, 330, 24),
+    "hard-100": lambda: random_clauses(100, 390, 16),
+    "hard-115": lambda: random_clauses(115, 460, 20),
+    "hard-140": lambda: random_clauses(140, 590, 16),
+    "random-40": lambda: random_clauses(40, 80),
+    "chains-17": lambda: chains(17, 40),
+    "adder-20": lambda: adder(20, 999_999),
+    "parity-22": lambda: parity(22),
+    "pigeons-9": lambda: pigeons(9),
+    "products-11": lambda: products(11, 5, 24),
 }
 
 
@@ -184,14 +206,15 @@ def run(words, source, folder, limit):
         _, status, usage = os.wait4(process.pid, 0)
         seconds = time.monotonic() - start
         process.returncode = os.waitstatus_to_exitcode(status)
-    return Run(process.returncode, seconds, usage.ru_maxrss * 1024 / 1e6, output, notes)
+    processor, memory = usage.ru_utime + usage.ru_stime, usage.ru_maxrss * 1024 / 1e6
+    return Run(process.returncode, seconds, processor, memory, output, notes)
 
 
-def listed(path, folder, limit):
-    """Lists the formula: the cubes, the seconds and the memory, each None where it did not end."""
-    found = run([PROGRAM, "enumerate"], path, folder, limit)
+def listed(path, folder, limit, *words):
+    """Lists the formula: how many cubes, and the run; None where it did not end."""
+    found = run([PROGRAM, "enumerate", *words], path, folder, limit)
     if found.status == TOO_LONG:
-        return None, None, None
+        return None
     # Line by line: a process that is started counts the memory that this one has by then.
     lines, last = 0, b""
     with found.output.open("rb") as listing:
@@ -199,7 +222,7 @@ def listed(path, folder, limit):
             lines += 1
     if found.status != 0 or last != b"s ALL\n":
         sys.exit("wrong: %s: status %d, %r" % (path, found.status, found.notes.read_bytes()))
-    return lines - 1, found.seconds, found.memory
+    return lines - 1, found
 
 
 def counted(path, folder, limit):
@@ -225,35 +248,64 @@ def shown(number, form):
     return "-" if number is None else form % number
 
 
+def search_row(path, folder, said):
+    """One formula, by one worker, and beside it what valgrind and clasp say."""
+    cubes, found = listed(path, folder, said.limit) or (None, None)
+    seconds, memory = (found.seconds, found.memory) if found else (None, None)
+    counts = found and shutil.which("valgrind") and not said.no_count
+    count = counted(path, folder, 20 * said.limit) if counts else None
+    points, clasp = by_clasp(path, folder, said.limit) if shutil.which("clasp") else (None, None)
+    row = path.stem, shown(cubes, "%d"), shown(seconds, "%.2f"), shown(memory, "%.0f")
+    row += shown(count, "%.0f"), shown(points, "%d"), shown(clasp, "%.2f")
+    print("%-16s %9s %8s %8s %10s %10s %8s" % row, flush=True)
+
+
+def workers_row(path, folder, said):
+    """One formula, by 1, 2 and 4 workers."""
+    print("%-16s" % path.stem, end="", flush=True)
+    for workers in WORKERS:
+        cubes, found = listed(path, folder, said.limit, "--workers", workers) or (None, None)
+        seconds, processor = (found.seconds, found.processor) if found else (None, None)
+        row = shown(seconds, "%.2f"), shown(processor, "%.2f"), shown(cubes, "%d")
+        print(" %8s %8s %9s" % row, end="", flush=True)
+    print()
+
+
+def print_heads(said):
+    if said.workers:
+        print("%-16s" % "" + "".join(" %27s" % (it + " worker" + "s" * (it > "1")) for it in WORKERS))
+        print("%-16s" % "formula" + " %8s %8s %9s" % ("clock", "CPU", "cubes") * len(WORKERS))
+    else:
+        print("%-16s %9s %8s %8s %10s %10s %8s" % HEADS)
+
+
+def formulas_of(said, folder):
+    """The formulas that are named; where none is, those of the folder and the families."""
+    if said.formulas:
+        return said.formulas
+    paths = [] if said.workers else sorted((TOP / "bench" / "formulas").glob("*.cnf"))
+    for name, make in (LARGE if said.workers else FAMILIES).items():
+        paths.append(folder / (name + ".cnf"))
+        write_formula(paths[-1], *make())
+    return paths
+
+
 def main():
     style = argparse.RawDescriptionHelpFormatter
     parser = argparse.ArgumentParser(description=__doc__, formatter_class=style)
     parser.add_argument("--limit", type=int, default=60)
     parser.add_argument("--no-count", action="store_true")
+    parser.add_argument("--workers", action="store_true")
     parser.add_argument("formulas", nargs="*", type=Path)
     said = parser.parse_args()
     build = [TOP / "allsat", "enumerate"]
     subprocess.run(build, input=b"p cnf 0 0\n", stdout=subprocess.DEVNULL, check=True)
     folder = Path(tempfile.mkdtemp())
     try:
-        paths = said.formulas
-        if not paths:
-            paths = sorted((TOP / "bench" / "formulas").glob("*.cnf"))
-            for name, make in FAMILIES.items():
-                paths.append(folder / (name + ".cnf"))
-                write_formula(paths[-1], *make())
-        counts = shutil.which("valgrind") and not said.no_count
-        print("%-16s %9s %8s %8s %10s %10s %8s" % HEADS)
+        paths = formulas_of(said, folder)
+        print_heads(said)
         for path in paths:
-            cubes, seconds, memory = listed(path, folder, said.limit)
-            count = counted(path, folder, 20 * said.limit) if counts and seconds else None
-            points, clasp = None, None
-            if shutil.which("clasp"):
-                points, clasp = by_clasp(path, folder, said.limit)
-            row = path.stem, shown(cubes, "%d"), shown(seconds, "%.2f"), shown(memory, "%.0f")
-            print("%-16s %9s %8s %8s" % row, end=" ")
-            row = shown(count, "%.0f"), shown(points, "%d"), shown(clasp, "%.2f")
-            print("%10s %10s %8s" % row, flush=True)
+            (workers_row if said.workers else search_row)(path, folder, said)
     finally:
         shutil.rmtree(folder)
 

@@ -160,8 +160,9 @@ if command -v python3 > /dev/null; then
     tools/test_manual.py || wrong=1
     tools/test_checker.py || wrong=1
     tools/random_texts.py 300 || wrong=1
+    tools/fronts.py || wrong=1
     tools/test_scaling.py || wrong=1
 else
-    echo 'skipped: no python3 here to run the commands of README, to check random texts and to split runs'
+    echo 'skipped: no python3 here to run the commands of README, to check random texts and fronts, and to split runs'
 fi
 exit "$wrong"

@@ -2,18 +2,24 @@
 """Refuses memory to the program: in each run one allocation, or all from one on.
 
 tools/refused_memory.py [FORMULAS [SEED]], at the top. For each drawn formula the program runs plain, with
-budgets, from a saved text, and with two workers, once for each allocation that it makes. Each run has to end with status 0
-or 3 as a run with memory may, or with status 4, the note, and on standard output nothing or a saved text;
-a run from each saved text has to come to a right listing. Each wrong run is a line; the status is 1 then.
-It is not part of the gate: it needs a C compiler, for a library that stands before the allocator.
+budgets, from a saved text, and with two workers, and checks a met text of it that is right and one that is not;
+besides, it drills two sizes by one worker and by two. Each of these runs is made once for each allocation that
+it makes. It has to end with status 0 or 3 as a run with memory may, a check and a drill with just the output
+of one with memory, or with status 4, the note, and on standard output nothing or a saved text. From each
+saved text a run by one worker and a run by two have to come to a listing that holds just the formula's set. Each wrong
+run is a line; the status is 1 then. It is not part of the gate: it needs a C compiler, for a library that stands
+before the allocator.
 """
 
+import itertools
 import os
 import pathlib
 import random
 import subprocess
 import sys
 import tempfile
+
+from dimacs import read
 
 # What ./allsat builds: the shell that starts it is not to be refused memory.
 PROGRAM = 'crates/allsat_cli/out/build/allsat'
@@ -83,6 +89,40 @@ def draw(draws):
     return '\n'.join(lines) + '\n'
 
 
+def models_of(text):
+    """Of each shown assignment that extends to a model the first model, as literals."""
+    said = read(text.encode())
+    clauses = said.clauses + [[literal] for literal in said.under]
+    found = {}
+    for signs in itertools.product((-1, 1), repeat=said.variables):
+        model = [sign * variable for variable, sign in enumerate(signs, 1)]
+        if all(any(literal in model for literal in clause) for clause in clauses):
+            found.setdefault(tuple(literal for literal in model if abs(literal) in said.shown), model)
+    return found
+
+
+def met_text(text, doubled=False):
+    """A met text of each such assignment. Where the last one is doubled, it overlaps itself."""
+    lines = []
+    for cube, model in models_of(text).items():
+        hidden = [literal for literal in model if literal not in cube]
+        lines.append(f'c p met {" ".join(map(str, (*cube, 0, *hidden, 0)))}\n')
+    lines += lines[-1:] if doubled else []
+    return f'c allsat met 1\n{text}{"".join(lines)}c p end\n'
+
+
+def drill_text(size):
+    """The formula of a drill, as docs/FORMATS.md gives it."""
+    clauses = []
+    for i in range(1, size + 1):
+        rows = {1: [(i, i + 1)] if i < size else [], 2: [(-i, size + i)],
+                3: [(-i, size + i), (-i, -size - i)], 0: [(i, size + i), (i, -size - i)]}
+        clauses += rows[i % 4]
+    shown = ' '.join(map(str, range(1, size + 1)))
+    lines = [f'p cnf {2 * size} {len(clauses)}', f'c p show {shown} 0', *(f'{a} {b} 0' for a, b in clauses)]
+    return '\n'.join(lines) + '\n'
+
+
 class Trial:
     """Runs over one formula, and what they came to."""
 
@@ -91,14 +131,14 @@ class Trial:
         self.formula.write_text(text, encoding='utf-8')
         self.runs = self.refused = self.saved = self.wrong = 0
 
-    def run(self, text, options, number=0, on=False):
+    def run(self, text, words, number=0, on=False):
         """Status, output and notes, where this allocation is refused, or all from it on."""
         environment = dict(os.environ)
         if number:
             environment.update(LD_PRELOAD=str(self.library), REFUSED=str(number))
             if on:
                 environment['REFUSED_ON'] = '1'
-        ran = subprocess.run([PROGRAM, 'enumerate', *options], input=text, capture_output=True, text=True,
+        ran = subprocess.run([PROGRAM, *words], input=text, capture_output=True, text=True,
                              env=environment, check=False)
         return ran.returncode, ran.stdout, ran.stderr
 
@@ -108,43 +148,66 @@ class Trial:
         return checked.returncode == 0
 
     def goes_on(self, saved):
-        """Whether a run from this text comes to a right listing."""
-        status, listing, _ = self.run(saved, [])
-        return status == 0 and self.is_right(listing)
+        """Whether runs from this text, by one worker and by two, come to right listings."""
+        ends = [self.run(saved, ['enumerate', *workers]) for workers in ([], TWO)]
+        return all(status == 0 and notes == '' and self.is_right(listing) for status, listing, notes in ends)
 
-    def ends_well(self, status, out, notes):
+    def ends_well(self, words, wanted, ended):
+        """Whether a run may end so, where one with memory comes to what is wanted."""
+        status, out, notes = ended
+        if status == 4:
+            self.refused += 1
+            self.saved += out != ''
+            saves = words[0] != 'check'
+            return notes == 'allsat: out of memory\n' and (out == '' or (saves and self.goes_on(out)))
+        if words[0] != 'enumerate':
+            return ended == wanted
         if status == 0:
-            return self.is_right(out)
-        if status == 3:
-            return self.goes_on(out)
-        self.refused += 1
-        self.saved += out != ''
-        return status == 4 and notes == 'allsat: out of memory\n' and (out == '' or self.goes_on(out))
+            return notes == '' and self.is_right(out)
+        return status == 3 and notes == 'allsat: budget spent\n' and self.goes_on(out)
 
-    def refuse_each(self, text, options, on):
+    def refuse_each(self, text, words, on):
         """Refuses each allocation of a run in turn."""
-        wanted = self.run(text, options)[:2]
-        two = options[:2] == TWO
+        wanted = self.run(text, words)
+        two = words[-2:] == TWO
         number = untouched = 0
         while untouched < (UNTOUCHED_BY_TWO if two else UNTOUCHED):
             number += 1
             self.runs += 1
-            status, out, notes = self.run(text, options, number, on)
-            same = status in (0, 3) if two else (status, out) == wanted
+            ended = self.run(text, words, number, on)
+            same = ended[0] in (0, 3) if two else ended == wanted
             untouched = untouched + 1 if same else 0
-            if (two or not same) and not self.ends_well(status, out, notes):
+            if (two or not same) and not self.ends_well(words, wanted, ended):
                 self.wrong += 1
-                print(f'wrong: allocation {number} refused, options {options}: status {status} on {text!r}')
+                print(f'wrong: allocation {number} refused, {" ".join(words)}: status {ended[0]} on {text!r}')
 
-    def refuse_all(self):
+    def refuse_all(self, cases):
+        for text, words in cases:
+            for on in (False, True):
+                self.refuse_each(text, words, on)
+
+    def refuse_listing(self):
+        """Of runs that list the formula, from its text and from a saved one, and of its checks."""
         cases = [(self.text, []), (self.text, ['--budget', '1']), (self.text, ['--budget', '3'])]
-        status, saved, _ = self.run(self.text, ['--budget', '2'])
+        status, saved, _ = self.run(self.text, ['enumerate', '--budget', '2'])
         if status == 3:
             cases += [(saved, []), (saved, ['--budget', '1']), (saved, TWO)]
-        cases += [(self.text, TWO), (self.text, [*TWO, '--budget', '2'])]
-        for text, options in cases:
-            for on in (False, True):
-                self.refuse_each(text, options, on)
+        cases += [(self.text, TWO), (self.text, ['--budget', '2', *TWO])]
+        self.refuse_all([(text, ['enumerate', *options]) for text, options in cases])
+        self.refuse_all([(met_text(self.text, doubled), ['check']) for doubled in (False, True)])
+
+
+def trials(place, formulas, draws):
+    """All that is tried."""
+    for size in (3, 5):
+        trial = Trial(place, drill_text(size))
+        words = ['drill', '--size', str(size)]
+        trial.refuse_all([('', words), ('', [*words, *TWO])])
+        yield trial
+    for _ in range(formulas):
+        trial = Trial(place, draw(draws))
+        trial.refuse_listing()
+        yield trial
 
 
 def main():
@@ -157,13 +220,12 @@ def main():
         (place / 'library.c').write_text(LIBRARY, encoding='utf-8')
         subprocess.run(['cc', '-shared', '-fPIC', '-O1', '-o', place / 'library.so', place / 'library.c', '-ldl'],
                        check=True)
-        for _ in range(formulas):
-            trial = Trial(place, draw(draws))
-            trial.refuse_all()
+        for trial in trials(place, formulas, draws):
             runs, refused = runs + trial.runs, refused + trial.refused
             saved, wrong = saved + trial.saved, wrong + trial.wrong
     if not wrong:
-        print(f'right: {runs} runs on {formulas} formulas, {refused} of them ended at want of memory, {saved} with a saved text')
+        print(f'right: {runs} runs on {formulas} formulas and two drills, {refused} of them ended at want of memory, '
+              f'{saved} with a saved text')
     return 1 if wrong else 0
 
 

@@ -5,8 +5,8 @@
 
 Each formula is stopped by a budget, split, its pieces are run by `xargs -P` (and by GNU parallel where
 that is installed), joined, and written by the program as a listing; its assignments have to be those
-of one run's listing, no two cubes may overlap, and its bytes have to be a listing. Formulas of over a
-second of search are split into 4, 16 and 64 pieces each. Then what join.py refuses: a piece that was
+of one run's listing, no two cubes may overlap, and its bytes have to be a listing. The four hard
+formulas, of 90 to 115 variables, are split into 4, 16 and 64 pieces each. Then what join.py refuses: a piece that was
 not run, one twice, one of another formula, one that was changed.
 """
 import pathlib
