@@ -40,8 +40,8 @@ pub record IsBeyond (old : Reading TextView) (count : ℕ) (piece : List ℕ) (r
   pub beyond : most_bytes < count + length piece
   pub judged : long_answer (behind old (take (most_bytes - count) piece)).state ≡ r
 
-abbrev pub FeedsOn : Reading TextView → ℕ → List ℕ → Reading TextView → Result ℕ ReadRefused →
-    Type 0
+abbrev pub FeedsOn : Reading TextView → ℕ → List ℕ → Reading TextView →
+    Result ℕ ReadRefused → Type 0
 FeedsOn old count piece new (Ok n) = IsFedOn old count piece new n
 FeedsOn old count piece new (Err (Text r)) =
     IsStopped old count piece r ⊎ IsBeyond old count piece r

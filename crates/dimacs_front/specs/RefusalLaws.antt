@@ -100,11 +100,12 @@ is_barred may_hold (Some l) = cond (nat_abs l == 0) false (not (may_hold l))
 -- A list of numbers is refused for the first value that the line may not hold and for a token
 -- behind its 0, whatever follows, and for want of a 0; else it holds the values before its 0.
 pub record ListsAreRefused : Type 0 where
-  pub barred : (may_hold : ℤ → Bool) (bad unended : TextRefused) (ls : List ℤ) (o : Option ℤ)
-      (ps : List (Option ℤ)) → All (IsHeld may_hold) ls → is_barred may_hold o ≡ true →
+  pub barred : (may_hold : ℤ → Bool) (bad unended : TextRefused) (ls : List ℤ)
+      (o : Option ℤ) (ps : List (Option ℤ)) → All (IsHeld may_hold) ls →
+      is_barred may_hold o ≡ true →
       list_says may_hold bad unended (values ls ++ o ∷ ps) ≡ Err bad
-  pub behind : (may_hold : ℤ → Bool) (bad unended : TextRefused) (ls : List ℤ) (o : Option ℤ)
-      (ps : List (Option ℤ)) → All (IsHeld may_hold) ls →
+  pub behind : (may_hold : ℤ → Bool) (bad unended : TextRefused) (ls : List ℤ)
+      (o : Option ℤ) (ps : List (Option ℤ)) → All (IsHeld may_hold) ls →
       list_says may_hold bad unended (values ls ++ Some (pos 0) ∷ o ∷ ps) ≡ Err bad
   pub unended : (may_hold : ℤ → Bool) (bad unended : TextRefused) (ls : List ℤ) →
       All (IsHeld may_hold) ls → list_says may_hold bad unended (values ls) ≡ Err unended
@@ -142,7 +143,8 @@ word_of Cubes = codes "cube"
 word_of Pending = codes "open"
 
 -- in a saved text, whose end line did not stand yet, or did
-abbrev pub said_saved : Option Below → List ListLine → List Given → SavedSaid → Bool → Said
+abbrev pub said_saved : Option Below → List ListLine → List Given → SavedSaid →
+    Bool → Said
 said_saved o ms gs k ended = record {
   below = o;
   shows = ms;
@@ -184,7 +186,8 @@ pub record SavedLinesAreRefused : Type 0 where
   pub end_behind : (n : ℕ) (o : Option Below) (ms : List ListLine) (gs : List Given)
       (k : SavedSaid) (ts : List (List ℕ)) →
       line_says n (said_saved o ms gs k true) (words_of (codes "end") ++ ts) ≡ Err (SavedBad n)
-  pub version : (s : Said) (ts : List (List ℕ)) → s.over ≡ false → is_version ts ≡ false →
+  pub version : (s : Said) (ts : List (List ℕ)) → s.over ≡ false →
+      is_version ts ≡ false →
       line_says 1 s (own_words (codes "saved") ++ ts) ≡ Err (SavedBad 1)
 
 -- In a met text a met line is refused with the first of its lists, and else with the second; and
@@ -206,5 +209,6 @@ pub record MetLinesAreRefused : Type 0 where
   pub end_behind : (n : ℕ) (o : Option Below) (ms : List ListLine) (gs : List Given)
       (k : SavedSaid) (ts : List (List ℕ)) →
       line_says n (said_met o ms gs k true) (words_of (codes "end") ++ ts) ≡ Err (SavedBad n)
-  pub version : (s : Said) (ts : List (List ℕ)) → s.over ≡ false → is_met_version ts ≡ false →
+  pub version : (s : Said) (ts : List (List ℕ)) → s.over ≡ false →
+      is_met_version ts ≡ false →
       line_says 1 s (own_words (codes "met") ++ ts) ≡ Err (SavedBad 1)

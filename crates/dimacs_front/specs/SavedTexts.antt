@@ -50,7 +50,8 @@ abbrev pub with_line : SavedList → SavedSaid → SavedLine → SavedSaid
 with_line Cubes k m = record k { cubes = k.cubes ++ m ∷ [] }
 with_line Pending k m = record k { pending = k.pending ++ m ∷ [] }
 
-abbrev pub cube_says : SavedList → ℕ → SavedSaid → List (List ℕ) → Result SavedSaid TextRefused
+abbrev pub cube_says : SavedList → ℕ → SavedSaid → List (List ℕ) →
+    Result SavedSaid TextRefused
 cube_says list n k ts =
     and_then (λ ls. Ok (with_line list k (record { line = n; cube = ls })))
     (rising_says n (map token_value ts))
@@ -70,7 +71,8 @@ behind_zero (Some l ∷ os) = cond (nat_abs l == 0) os (behind_zero os)
 abbrev pub with_met : SavedSaid → MetLine → SavedSaid
 with_met k m = record k { mets = k.mets ++ m ∷ [] }
 
-abbrev pub hidden_says : ℕ → SavedSaid → List (Option ℤ) → List ℤ → Result SavedSaid TextRefused
+abbrev pub hidden_says : ℕ → SavedSaid → List (Option ℤ) → List ℤ →
+    Result SavedSaid TextRefused
 hidden_says n k os cube =
     and_then
     (λ ls. Ok (with_met k (record { line = n; met = record { cube = cube; hidden = ls } })))

@@ -9,12 +9,13 @@ and_then f (Ok a) = f a
 and_then f (Err r) = Err r
 
 -- the rest, where the test holds, and else this refusal
-abbrev pub needs : {A : Type 0} → Bool → TextRefused → Result A TextRefused → Result A TextRefused
+abbrev pub needs : {A : Type 0} → Bool → TextRefused → Result A TextRefused →
+    Result A TextRefused
 needs b r x = cond b x (Err r)
 
 -- the rest, where there is no such line, and else the refusal of this one
-abbrev pub unless : {A : Type 0} → Option ℕ → (ℕ → TextRefused) → Result A TextRefused →
-    Result A TextRefused
+abbrev pub unless : {A : Type 0} → Option ℕ → (ℕ → TextRefused) →
+    Result A TextRefused → Result A TextRefused
 unless None f x = x
 unless (Some n) f x = Err (f n)
 

@@ -115,7 +115,8 @@ input_of v cs vs u k = record {
   met = met_of k;
 }
 
-abbrev pub shown_says : ℕ → Below → List Given → SavedSaid → List ℕ → Result Input TextRefused
+abbrev pub shown_says : ℕ → Below → List Given → SavedSaid → List ℕ →
+    Result Input TextRefused
 shown_says n w gs k vs =
     needs (nat_le (length vs) most_shown) (TooManyShown n)
     (unless (first_misplaced vs [] gs) UnderBad

@@ -63,7 +63,8 @@ ALineOfNumbersSaysThese =
 abbrev pub TheFirstRefusedNumberCounts : Type 0
 TheFirstRefusedNumberCounts =
     (n : ℕ) (w v : Below) (os ps : List (Option ℤ)) (o : Option ℤ) (r : TextRefused) →
-    numbers_say n w os ≡ Ok v → number_says n v o ≡ Err r → numbers_say n w (os ++ o ∷ ps) ≡ Err r
+    numbers_say n w os ≡ Ok v → number_says n v o ≡ Err r →
+    numbers_say n w (os ++ o ∷ ps) ≡ Err r
 
 -- ---- show lines
 
@@ -102,7 +103,8 @@ pub record ShowLinesAreRefused : Type 0 where
       All IsVariable vs → is_foreign o ≡ true →
       show_says n (variables vs ++ o ∷ ps) ≡ Err (ShowBad n)
   pub behind : (n : ℕ) (vs : List ℕ) (o : Option ℤ) (ps : List (Option ℤ)) →
-      All IsVariable vs → show_says n (variables vs ++ Some (pos 0) ∷ o ∷ ps) ≡ Err (ShowBad n)
+      All IsVariable vs →
+      show_says n (variables vs ++ Some (pos 0) ∷ o ∷ ps) ≡ Err (ShowBad n)
   pub unended : (n : ℕ) (vs : List ℕ) →
       All IsVariable vs → show_says n (variables vs) ≡ Err (ShowUnended n)
 
@@ -139,14 +141,17 @@ TheFormulaEndsAtAPercent =
     (line_says n (record { below = Some w; shows = ms; given = gs; saved = k; over = false })
     (t ∷ ts) ≡
     Ok (record { below = Some w; shows = ms; given = gs; saved = k; over = true }))
-    × (line_says m (record { below = Some w; shows = ms; given = gs; saved = k; over = true }) us ≡
+    × (line_says m
+    (record { below = Some w; shows = ms; given = gs; saved = k; over = true }) us ≡
     Ok (record { below = Some w; shows = ms; given = gs; saved = k; over = true }))
 
 -- the lowest refused line counts: lines behind it change nothing
 abbrev pub TheLowestRefusedLineCounts : Type 0
 TheLowestRefusedLineCounts =
-    (r : TextRefused) (ls ms : List (List ℕ)) → lines_say ls ≡ Err r → lines_say (ls ++ ms) ≡ Err r
+    (r : TextRefused) (ls ms : List (List ℕ)) → lines_say ls ≡ Err r →
+    lines_say (ls ++ ms) ≡ Err r
 
 -- however long the text is, the reader keeps no more variables of show lines than there may be
 abbrev pub FewVariablesAreKept : Type 0
-FewVariablesAreKept = (ls : List (List ℕ)) → length (text_after ls).state.named ≤ most_variables
+FewVariablesAreKept =
+    (ls : List (List ℕ)) → length (text_after ls).state.named ≤ most_variables

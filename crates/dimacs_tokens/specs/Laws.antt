@@ -11,13 +11,15 @@ use Rattle.dimacs_tokens.specs.Texts.{is_line, text_of}
 
 -- the lines of a text that ends its lines are just these
 abbrev pub EndedLinesAreLines : Type 0
-EndedLinesAreLines = (ls : List (List ℕ)) → list_all is_line ls ≡ true → lines (text_of ls) ≡ ls
+EndedLinesAreLines =
+    (ls : List (List ℕ)) → list_all is_line ls ≡ true → lines (text_of ls) ≡ ls
 
 -- and a last line of at least one byte needs no byte 10
 abbrev pub ALastLineNeedsNoEnd : Type 0
 ALastLineNeedsNoEnd =
-    (ls : List (List ℕ)) (line : List ℕ) → list_all is_line ls ≡ true → is_line line ≡ true →
-    is_nil line ≡ false → lines (text_of ls ++ line) ≡ ls ++ line ∷ []
+    (ls : List (List ℕ)) (line : List ℕ) → list_all is_line ls ≡ true →
+    is_line line ≡ true → is_nil line ≡ false →
+    lines (text_of ls ++ line) ≡ ls ++ line ∷ []
 
 -- neither white space nor byte 10
 abbrev pub is_token_byte : ℕ → Bool
@@ -40,8 +42,9 @@ NoByteIsLost =
 -- tokens with white space behind each are cut into just these
 abbrev pub PartedTokensAreCut : Type 0
 PartedTokensAreCut =
-    (ts : List (List ℕ)) (gap : List ℕ) → list_all is_token ts ≡ true → is_nil gap ≡ false →
-    list_all is_white gap ≡ true → tokens (flat_map (λ t. t ++ gap) ts) ≡ ts
+    (ts : List (List ℕ)) (gap : List ℕ) → list_all is_token ts ≡ true →
+    is_nil gap ≡ false → list_all is_white gap ≡ true →
+    tokens (flat_map (λ t. t ++ gap) ts) ≡ ts
 
 -- and so are tokens with white space between them, without any behind the last
 abbrev pub JoinedTokensAreCut : Type 0
@@ -65,4 +68,5 @@ LeadingZerosChangeNothing =
 -- eight bytes tell a token from each shorter word
 abbrev pub WordsAreToldByHead : Type 0
 WordsAreToldByHead =
-    (t word : List ℕ) → length word < 8 → bytes_eq (seen_token t).head word ≡ bytes_eq t word
+    (t word : List ℕ) → length word < 8 →
+    bytes_eq (seen_token t).head word ≡ bytes_eq t word

@@ -170,10 +170,10 @@ prefixes_kept : (j i k : ℕ) (kept : Option (List ℤ)) → prefixes_of (kept_p
 prefixes_kept j i k None = refl
 prefixes_kept j i k (Some c) = refl
 
-prefixes-append : (ps rs : List Pending) → prefixes_of (ps ++ rs) ≡ prefixes_of ps ++ prefixes_of rs
+pub prefixes-append : (ps rs : List Pending) → prefixes_of (ps ++ rs) ≡ prefixes_of ps ++ prefixes_of rs
 prefixes-append ps rs = map-append (λ q. q.prefix) ps rs
 
-prefixes_of_parts : (j k : ℕ) (o : Outcome) → prefixes_of (parts_of j k o) ≡ open_parts o
+pub prefixes_of_parts : (j k : ℕ) (o : Outcome) → prefixes_of (parts_of j k o) ≡ open_parts o
 prefixes_of_parts j k o =
     prefixes-append (numbered j 0 o.rest) (kept_part j (length o.rest) k o.kept)
     ∙ ap₂ (λ x y. x ++ y) (prefixes_numbered j 0 o.rest) (prefixes_kept j (length o.rest) k o.kept)

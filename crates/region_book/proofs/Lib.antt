@@ -4,7 +4,7 @@ mod Begin
 mod Booked
 mod Found
 mod Holders
-mod Kept
+pub mod Kept
 mod Left
 mod Live
 mod Named

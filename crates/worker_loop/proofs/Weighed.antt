@@ -1,26 +1,15 @@
 -- How much is pending, after a prefix was taken and after it was reported.
-use Rattle.std.proofs.Common.{◌≡◌, ℕ, suc, ◌+◌, ◌<◌, ◌≤◌, ◌⊎◌, Bool, List, [], ◌∷◌, ◌++◌, length, ℤ, Option, Some, None, option_to_list, refl, ap, ap₂, ◌∙◌, inl, inr, arith}
+use Rattle.std.proofs.Common.{◌≡◌, ℕ, ◌+◌, ◌<◌, ◌≤◌, ◌⊎◌, Bool, List, [], ◌∷◌, ◌++◌, length, ℤ, Option, Some, None, refl, ap, ◌∙◌, inl, inr, arith}
 use Rattle.std.specs.List.{find}
 use Rattle.std.proofs.lemmas.Bool.{cases_Bool}
-use Rattle.std.proofs.lemmas.List.{map-append}
 use Rattle.search_job.specs.Weights.{weight, weights}
 use Rattle.search_job.proofs.Weights.{weight_some, weights-append}
 use Rattle.prefix_jobs.specs.declared.outcome.Outcome.{Outcome}
 use Rattle.prefix_jobs.specs.Outcomes.{open_parts}
 use Rattle.region_book.specs.Machine.{Pending}
-use Rattle.region_book.specs.Machine.{edit_first, taken_by, taken_out, numbered, kept_part, parts_of, prefixes_of}
+use Rattle.region_book.specs.Machine.{edit_first, taken_by, taken_out, parts_of, prefixes_of}
 use Rattle.region_book.specs.Pages.{prefix_of}
-
-prefixes_numbered : (j i : ℕ) (cs : List (List ℤ)) → prefixes_of (numbered j i cs) ≡ cs
-prefixes_numbered j i [] = refl
-prefixes_numbered j i (c ∷ cs) = ap (λ x. c ∷ x) (prefixes_numbered j (suc i) cs)
-
-prefixes_kept : (j i k : ℕ) (kept : Option (List ℤ)) → prefixes_of (kept_part j i k kept) ≡ option_to_list kept
-prefixes_kept j i k None = refl
-prefixes_kept j i k (Some c) = refl
-
-prefixes-append : (ps rs : List Pending) → prefixes_of (ps ++ rs) ≡ prefixes_of ps ++ prefixes_of rs
-prefixes-append ps rs = map-append (λ q. q.prefix) ps rs
+use Rattle.region_book.proofs.Kept.{prefixes-append, prefixes_of_parts}
 
 module _ (n : ℕ) where
   -- who holds a prefix weighs nothing
@@ -46,10 +35,7 @@ module _ (n : ℕ) where
 
   -- and what comes in its place
   weight_parts : (j k : ℕ) (o : Outcome) → weights n (prefixes_of (parts_of j k o)) ≡ weights n (open_parts o)
-  weight_parts j k o =
-      ap (weights n)
-      (prefixes-append (numbered j 0 o.rest) (kept_part j (length o.rest) k o.kept)
-      ∙ ap₂ (λ x y. x ++ y) (prefixes_numbered j 0 o.rest) (prefixes_kept j (length o.rest) k o.kept))
+  weight_parts j k o = ap (weights n) (prefixes_of_parts j k o)
 
   -- where what comes weighs less than what goes, less is pending
   pub less_reported : (test : Pending → Bool) (c : List ℤ) (ps : List Pending) (j k : ℕ) (o : Outcome) → prefix_of (find test ps) ≡ Some c → weights n (open_parts o) < weight n c →
