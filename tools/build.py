@@ -2,9 +2,9 @@
 """Builds the program: tools/build.py PROGRAM puts it at this path.
 
 Everything is proved before it is compiled. Crates that do not stand on each other are proved at the same
-time, by all processors, in a copy of the sources that holds just the crates of the program. Standard error
-gets a line for each crate that is done, and the path of the log where something fails. While one call
-builds, a second one waits for it.
+time, by all processors, in a copy of the sources that holds just the crates of the program; the last ones,
+each of which stands on all others, follow one after another. Standard error gets a line for each crate that
+is proved, and the path of the log where something fails. While one call builds, a second one waits for it.
 """
 import fcntl
 import os
@@ -14,15 +14,11 @@ import shutil
 import subprocess
 import sys
 import time
-from concurrent.futures import FIRST_COMPLETED, ThreadPoolExecutor, wait
 
 ROOT = pathlib.Path(__file__).resolve().parent.parent
 CLI = "allsat_cli"
 # What one check may take, in bytes, so that no more run at a time than memory holds.
 MEMORY_OF_A_CHECK = 2_500_000_000
-# A check by more jobs than these gains nothing.
-MOST_JOBS = 4
-SOURCES = (".rt", ".antt")
 
 
 def say(text):
@@ -75,6 +71,17 @@ def is_fresh(program, names):
     return all(it.stat().st_mtime_ns <= made for it in sources(names))
 
 
+def in_a_row(names, below):
+    """The crates at the end of this order each of which stands on all before it."""
+    under = {}
+    for name in names:
+        under[name] = set().union(*(under[it] | {it} for it in below[name] if it in names))
+    first = len(names)
+    while first > 1 and under[names[first - 1]] >= set(names[:first - 1]):
+        first -= 1
+    return names[first:]
+
+
 def lay_out(place, names, lines):
     """Copies the sources of these crates. What earlier builds kept stays."""
     for name in names:
@@ -85,49 +92,49 @@ def lay_out(place, names, lines):
     (place / "crates.txt").write_text("".join(f"{lines[it]}\n" for it in names), encoding="utf-8")
 
 
-def weights_of_chains(place, names, below):
-    """For each crate its bytes of sources and those of the heaviest chain of crates that stand on it."""
-    weights = {}
-    for name in reversed(names):
-        bytes_here = sum(it.stat().st_size for it in (place / "crates" / name).rglob("*") if it.suffix in SOURCES)
-        behind = (weights[it] for it in weights if name in below[it])
-        weights[name] = bytes_here + max(behind, default=0)
-    return weights
-
-
-def prove_one(place, name, jobs, log):
-    """Proves a crate by so many jobs, over what those below it kept. Answers whether it is proved."""
-    run = subprocess.run(
-        ["rt", "check", "--jobs", str(jobs)], cwd=place / "crates" / name,
-        stdin=subprocess.DEVNULL, stdout=subprocess.PIPE, stderr=subprocess.STDOUT, text=True, check=False
-    )
-    log.write(f"== {name}\n{run.stdout}")
+def prove_beside(place, names, left, log):
+    """Proves these crates, as many at the same time as there are processors. Says which are proved, and how many
+    of the program's are then left. Answers whether all are."""
+    waiting, at = set(names), None
+    with subprocess.Popen(
+        ["rt", "all", "check", "--jobs", str(processors())], cwd=place,
+        stdin=subprocess.DEVNULL, stdout=subprocess.PIPE, stderr=subprocess.STDOUT, text=True
+    ) as run:
+        for line in run.stdout:
+            log.write(line)
+            if line.startswith("== "):
+                at = line[3:].strip()
+            if line.startswith("logic=proved") and at in waiting:
+                waiting.remove(at)
+                left -= 1
+                say(f"{at} is proved, {left} crates are left")
     log.flush()
     return run.returncode == 0
 
 
-def prove(place, names, below, log):
-    """Proves the crates side by side, each once those below it are, and first those on which the heaviest
-    chains stand; processors that no crate waits for go to the ones that begin. Says which are done. Answers
-    whether all are."""
-    weights, free = weights_of_chains(place, names, below), processors()
-    waiting, running, proved = sorted(names, key=lambda name: -weights[name]), {}, set()
-    with ThreadPoolExecutor(free) as pool:
-        while len(proved) < len(names):
-            ready = [it for it in waiting if proved.issuperset(set(below[it]) & set(names))]
-            for at, name in enumerate(ready[:free]):
-                jobs = max(1, min(MOST_JOBS, free // (len(ready) - at)))
-                waiting.remove(name)
-                running[pool.submit(prove_one, place, name, jobs, log)] = name, jobs
-                free -= jobs
-            for done in wait(running, return_when=FIRST_COMPLETED).done:
-                name, jobs = running.pop(done)
-                free += jobs
-                if not done.result():
-                    say(f"{name} is not proved; waiting for what else was begun")
-                    return False
-                proved.add(name)
-                say(f"{name} is proved, {len(names) - len(proved)} of {len(names)} crates are left")
+def prove_one(place, name, log):
+    """Proves a crate whose others are proved, by all processors. Answers whether it is proved."""
+    log.write(f"== {name}\n")
+    log.flush()
+    run = subprocess.run(
+        ["rt", "check", "--jobs", str(processors())], cwd=place / "crates" / name,
+        stdin=subprocess.DEVNULL, stdout=log, stderr=subprocess.STDOUT, text=True, check=False
+    )
+    return run.returncode == 0
+
+
+def prove(place, names, below, lines, log):
+    """Proves the crates, those that have others beside them at the same time. Answers whether all are."""
+    row = in_a_row(names, below)
+    beside = names[:len(names) - len(row)]
+    lay_out(place, beside, lines)
+    if beside and not prove_beside(place, beside, len(names), log):
+        return False
+    lay_out(place, names, lines)
+    for at, name in enumerate(row, 1):
+        if not prove_one(place, name, log):
+            return False
+        say(f"{name} is proved, {len(row) - at} crates are left")
     return True
 
 
@@ -155,9 +162,8 @@ def build(program):
             return True
         say(f"building the program: {len(names)} crates, each proved before it is compiled")
         begun = time.time_ns()
-        lay_out(place, names, lines)
         with open(place / "build.log", "w", encoding="utf-8") as log:
-            if not prove(place, names, below, log):
+            if not prove(place, names, below, lines, log):
                 return False
             say("all is proved; compiling")
             log.flush()

@@ -1,14 +1,14 @@
 #!/usr/bin/env python3
 """Refuses memory to the program: in each run one allocation, or all from one on.
 
-tools/refused_memory.py [FORMULAS [SEED]], at the top. For each drawn formula the program runs plain, with
-budgets, from a saved text, and with two workers, and checks a met text of it that is right and one that is not;
-besides, it drills two sizes by one worker and by two. Each of these runs is made once for each allocation that
-it makes. It has to end with status 0 or 3 as a run with memory may, a check and a drill with just the output
-of one with memory, or with status 4, the note, and on standard output nothing or a saved text. From each
-saved text a run by one worker and a run by two have to come to a listing that holds just the formula's set. Each wrong
-run is a line; the status is 1 then. It is not part of the gate: it needs a C compiler, for a library that stands
-before the allocator.
+tools/refused_memory.py [FORMULAS [SEED [WORKERS]]], at the top. For each drawn formula the program runs plain, with
+budgets, from a saved text, and with several workers, which are two where no number is said, and checks a met text of
+it that is right and one that is not; besides, it drills two sizes by one worker and by several. Each of these runs is
+made once for each allocation that it makes. It has to end with status 0 or 3 as a run with memory may, a check and a
+drill with just the output of one with memory, or with status 4, the note, and on standard output nothing or a saved
+text. From each saved text a run by one worker and a run by several have to come to a listing that holds just the
+formula's set. Each wrong run is a line; the status is 1 then. It is not part of the gate: it needs a C compiler, for a
+library that stands before the allocator.
 """
 
 import itertools
@@ -24,10 +24,9 @@ from dimacs import read
 # What ./allsat builds: the shell that starts it is not to be refused memory.
 PROGRAM = 'crates/allsat_cli/out/build/allsat'
 # So many runs in a row that end as one with memory does show that no allocation is left to refuse.
-# Two workers make other allocations in each run, and may cut the cubes otherwise.
+# Several workers make other allocations in each run, and may cut the cubes otherwise.
 UNTOUCHED = 12
-UNTOUCHED_BY_TWO = 40
-TWO = ['--workers', '2']
+UNTOUCHED_BY_SEVERAL = 40
 
 LIBRARY = r'''
 #define _GNU_SOURCE
@@ -126,8 +125,9 @@ def drill_text(size):
 class Trial:
     """Runs over one formula, and what they came to."""
 
-    def __init__(self, place, text):
-        self.library, self.formula, self.text = place / 'library.so', place / 'formula', text
+    def __init__(self, place, text, several):
+        self.library, self.formula = place / 'library.so', place / 'formula'
+        self.text, self.several = text, several
         self.formula.write_text(text, encoding='utf-8')
         self.runs = self.refused = self.saved = self.wrong = 0
 
@@ -148,8 +148,8 @@ class Trial:
         return checked.returncode == 0
 
     def goes_on(self, saved):
-        """Whether runs from this text, by one worker and by two, come to right listings."""
-        ends = [self.run(saved, ['enumerate', *workers]) for workers in ([], TWO)]
+        """Whether runs from this text, by one worker and by several, come to right listings."""
+        ends = [self.run(saved, ['enumerate', *workers]) for workers in ([], self.several)]
         return all(status == 0 and notes == '' and self.is_right(listing) for status, listing, notes in ends)
 
     def ends_well(self, words, wanted, ended):
@@ -169,15 +169,15 @@ class Trial:
     def refuse_each(self, text, words, on):
         """Refuses each allocation of a run in turn."""
         wanted = self.run(text, words)
-        two = words[-2:] == TWO
+        by_several = words[-2:] == self.several
         number = untouched = 0
-        while untouched < (UNTOUCHED_BY_TWO if two else UNTOUCHED):
+        while untouched < (UNTOUCHED_BY_SEVERAL if by_several else UNTOUCHED):
             number += 1
             self.runs += 1
             ended = self.run(text, words, number, on)
-            same = ended[0] in (0, 3) if two else ended == wanted
+            same = ended[0] in (0, 3) if by_several else ended == wanted
             untouched = untouched + 1 if same else 0
-            if (two or not same) and not self.ends_well(words, wanted, ended):
+            if (by_several or not same) and not self.ends_well(words, wanted, ended):
                 self.wrong += 1
                 print(f'wrong: allocation {number} refused, {" ".join(words)}: status {ended[0]} on {text!r}')
 
@@ -191,21 +191,21 @@ class Trial:
         cases = [(self.text, []), (self.text, ['--budget', '1']), (self.text, ['--budget', '3'])]
         status, saved, _ = self.run(self.text, ['enumerate', '--budget', '2'])
         if status == 3:
-            cases += [(saved, []), (saved, ['--budget', '1']), (saved, TWO)]
-        cases += [(self.text, TWO), (self.text, ['--budget', '2', *TWO])]
+            cases += [(saved, []), (saved, ['--budget', '1']), (saved, self.several)]
+        cases += [(self.text, self.several), (self.text, ['--budget', '2', *self.several])]
         self.refuse_all([(text, ['enumerate', *options]) for text, options in cases])
         self.refuse_all([(met_text(self.text, doubled), ['check']) for doubled in (False, True)])
 
 
-def trials(place, formulas, draws):
+def trials(place, formulas, draws, several):
     """All that is tried."""
     for size in (3, 5):
-        trial = Trial(place, drill_text(size))
+        trial = Trial(place, drill_text(size), several)
         words = ['drill', '--size', str(size)]
-        trial.refuse_all([('', words), ('', [*words, *TWO])])
+        trial.refuse_all([('', words), ('', [*words, *several])])
         yield trial
     for _ in range(formulas):
-        trial = Trial(place, draw(draws))
+        trial = Trial(place, draw(draws), several)
         trial.refuse_listing()
         yield trial
 
@@ -213,6 +213,7 @@ def trials(place, formulas, draws):
 def main():
     formulas = int(sys.argv[1]) if len(sys.argv) > 1 else 5
     draws = random.Random(int(sys.argv[2]) if len(sys.argv) > 2 else 1)
+    several = ['--workers', sys.argv[3] if len(sys.argv) > 3 else '2']
     runs = refused = saved = wrong = 0
     subprocess.run(['./allsat', 'enumerate'], input='p cnf 0 0\n', text=True, stdout=subprocess.DEVNULL, check=True)
     with tempfile.TemporaryDirectory() as name:
@@ -220,7 +221,7 @@ def main():
         (place / 'library.c').write_text(LIBRARY, encoding='utf-8')
         subprocess.run(['cc', '-shared', '-fPIC', '-O1', '-o', place / 'library.so', place / 'library.c', '-ldl'],
                        check=True)
-        for trial in trials(place, formulas, draws):
+        for trial in trials(place, formulas, draws, several):
             runs, refused = runs + trial.runs, refused + trial.refused
             saved, wrong = saved + trial.saved, wrong + trial.wrong
     if not wrong:
