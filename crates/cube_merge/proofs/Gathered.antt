@@ -1,11 +1,11 @@
 -- The names of all parts, after a part has changed.
-use Rattle.std.proofs.Common.{◌≡◌, ℕ, zero, suc, ◌+◌, ◌<◌, List, [], ◌∷◌, ◌++◌, replicate, length, length-append, get_or, set, Vec, Global, append_assoc, refl, sym, ap, subst, subst₂, ◌∙◌, arith}
+use Rattle.std.proofs.Common.{◌≡◌, ℕ, zero, suc, ◌+◌, ◌<◌, ◌≤◌, List, [], ◌∷◌, ◌++◌, replicate, length, length-append, get_or, set, take, Vec, Global, append_assoc, add-one, refl, sym, ap, subst, subst₂, ◌∙◌, arith}
 use Rattle.std.specs.List.{All}
 use Rattle.std.specs.List.Sorted.{IsPermutation}
 use Rattle.std.proofs.lemmas.List.Elements.{All-nil, All-head, All-tail, All-append}
 use Rattle.std.proofs.lemmas.List.Sorted.{IsPermutation-append_left, IsPermutation-append_right, IsPermutation-append_comm, IsPermutation-to_front, IsPermutation-middle, IsPermutation-trans, length_permutation}
 use Rattle.cube_merge.specs.declared.name.CubeName.{CubeName}
-use Rattle.std.proofs.lemmas.List.{map-set, get_or-map, set-get_or, length-map}
+use Rattle.std.proofs.lemmas.List.{append-nil, map-set, get_or-map, set-get_or, length-map}
 use Rattle.cube_merge.specs.Parts.{all_names, part_lists}
 
 pub same_gathered : (parts : List (List CubeName)) (at : ℕ) (part : List CubeName) → at < length parts → IsPermutation (get_or parts at []) part → IsPermutation (all_names parts) (all_names (set parts at part))
@@ -81,4 +81,22 @@ pub inside_lists : (parts : List (Vec CubeName Global)) (lists : List (List Cube
 inside_lists parts lists at same low =
     let long = ap length same in
     let all = length-map parts (λ (x : Vec CubeName Global). x.items) in
+    omega arith
+
+-- the names of one part more
+gathered_suc : (parts : List (List CubeName)) (at : ℕ) → at < length parts → all_names (take (suc at) parts) ≡ all_names (take at parts) ++ get_or parts at []
+gathered_suc [] at inside = absurd (omega arith)
+gathered_suc (p ∷ parts) zero inside = append-nil p
+gathered_suc (p ∷ parts) (suc at) inside = ap (λ x. p ++ x) (gathered_suc parts at (omega arith)) ∙ sym (append_assoc p (all_names (take at parts)) (get_or parts at []))
+
+pub gathered_more : (parts : List (List CubeName)) (at : ℕ) → at < length parts → all_names (take (at + 1) parts) ≡ all_names (take at parts) ++ get_or parts at []
+gathered_more parts at inside = ap (λ n. all_names (take n parts)) (add-one at) ∙ gathered_suc parts at inside
+
+pub part_fits : (parts : List (List CubeName)) (at : ℕ) → at < length parts → length (all_names (take at parts)) + length (get_or parts at []) ≤ length (all_names parts)
+part_fits [] at inside = absurd (omega arith)
+part_fits (p ∷ parts) zero inside = let long = length-append p (all_names parts) in omega arith
+part_fits (p ∷ parts) (suc at) inside =
+    let rest = part_fits parts at (omega arith) in
+    let one = length-append p (all_names (take at parts)) in
+    let all = length-append p (all_names parts) in
     omega arith

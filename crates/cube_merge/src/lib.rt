@@ -8,6 +8,7 @@
 mod merging;
 mod name;
 mod ordering;
+mod places;
 mod runs;
 mod shelf;
 

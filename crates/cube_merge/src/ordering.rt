@@ -23,7 +23,7 @@ pub fn put_in_order<N: Copy, S: Shelf<N>>(names: &mut Vec<N>, shelf: &S)
 }
 
 /// Whether the names are in order. One walk, up to the first two that are not.
-fn are_in_order<N: Copy, S: Shelf<N>>(names: &[N], shelf: &S) -> bool
+pub(crate) fn are_in_order<N: Copy, S: Shelf<N>>(names: &[N], shelf: &S) -> bool
     ensures { OnTrue result (IsSorted (name_order (S.cube_of shelf.now)) names.now) }
 {
     names.is_sorted_by(|a, b| !compare_names(*b, *a, shelf).is_lt())

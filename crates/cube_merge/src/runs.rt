@@ -7,6 +7,7 @@ ghost use Rattle.cube_merge.specs.Parts.{all_names, part_lists};
 
 use crate::merging::{merge, put_parts_in_order};
 use crate::name::add_names;
+use crate::places::gather_in_order;
 use crate::{CubeName, Shelf};
 use std::alloc::{AllocError, Global};
 use std::marker::Model;
@@ -62,9 +63,10 @@ impl Runs {
         Ok(())
     }
 
-    /// All names in the order of their cubes, each as often as it was added. A part that is in
-    /// order costs a look at each name, else it is sorted; then each name costs a comparison with
-    /// the last one of each other part that has one. It takes no memory.
+    /// All names in the order of their cubes, each as often as it was added. Where each place has
+    /// a stretch of that order, the places are sorted, and each name costs a look. Else each part
+    /// is sorted, where it is not in order, and each name costs a comparison with the last one of
+    /// each other part that has one. It takes no memory.
     pub fn arrange<S: Shelf<CubeName>>(self, shelf: &S) -> Vec<CubeName>
         ensures same { IsPermutation (all_names self) result.items }
         ensures sorted { IsSorted (name_order (S.cube_of shelf.now)) result.items }
@@ -74,6 +76,10 @@ impl Runs {
             count: _,
             mut room,
         } = self;
+        if gather_in_order(&parts, &mut room, shelf) {
+            return room;
+        }
+        room.clear();
         put_parts_in_order(&mut parts, shelf);
         merge(&mut parts, &mut room, shelf);
         room.reverse();
