@@ -2,8 +2,8 @@
 """Builds the program: tools/build.py PROGRAM puts it at this path.
 
 Everything is proved before it is compiled. Crates that do not stand on each other are proved at the same
-time, by all processors, in a copy of the sources that holds just the crates of the program; the last ones,
-each of which stands on all others, follow one after another. Standard error gets a line for each crate that
+time, by all processors: each in a folder of its own, beside the libraries of those below it, since two calls
+of `rt` wait for each other where they share a crate's folder. Standard error gets a line for each crate that
 is proved, and the path of the log where something fails. While one call builds, a second one waits for it.
 """
 import fcntl
@@ -14,11 +14,16 @@ import shutil
 import subprocess
 import sys
 import time
+from concurrent.futures import FIRST_COMPLETED, ThreadPoolExecutor, wait
 
 ROOT = pathlib.Path(__file__).resolve().parent.parent
 CLI = "allsat_cli"
-# What one check may take, in bytes, so that no more run at a time than memory holds.
+# What a proof may take, in bytes, so that no more run at a time than memory holds.
 MEMORY_OF_A_CHECK = 2_500_000_000
+# A proof by more jobs than these gains nothing.
+MOST_JOBS = 4
+SOURCES = (".rt", ".antt")
+PARTS = ("src", "specs", "proofs")
 
 
 def say(text):
@@ -59,7 +64,7 @@ def processors():
 def sources(names):
     files = [ROOT / "crates.txt"]
     for name in names:
-        for part in ("src", "specs", "proofs"):
+        for part in PARTS:
             files += (it for it in (ROOT / "crates" / name / part).rglob("*") if it.is_file())
     return files
 
@@ -71,88 +76,111 @@ def is_fresh(program, names):
     return all(it.stat().st_mtime_ns <= made for it in sources(names))
 
 
-def in_a_row(names, below):
-    """The crates at the end of this order each of which stands on all before it."""
+def crates_under(names, below):
+    """For each crate all those below it."""
     under = {}
     for name in names:
-        under[name] = set().union(*(under[it] | {it} for it in below[name] if it in names))
-    first = len(names)
-    while first > 1 and under[names[first - 1]] >= set(names[:first - 1]):
-        first -= 1
-    return names[first:]
+        here = [it for it in below[name] if it in under]
+        under[name] = set(here).union(*(under[it] for it in here))
+    return under
 
 
-def lay_out(place, names, lines):
-    """Copies the sources of these crates. What earlier builds kept stays."""
-    for name in names:
-        for part in ("src", "specs", "proofs"):
-            shutil.rmtree(place / "crates" / name / part, ignore_errors=True)
+def link_or_copy(file, to):
+    try:
+        os.link(file, to)
+    except OSError:
+        shutil.copy2(file, to)
+
+
+def weights_of_chains(names, below):
+    """For each crate its bytes of sources and those of the heaviest chain of crates that stand on it."""
+    weights = {}
+    for name in reversed(names):
+        bytes_here = sum(it.stat().st_size for it in (ROOT / "crates" / name).rglob("*") if it.suffix in SOURCES)
+        behind = (weights[it] for it in weights if name in below[it])
+        weights[name] = bytes_here + max(behind, default=0)
+    return weights
+
+
+class Place:
+    """Where the crates are proved: for each a folder `NAME/crates` with copies of it and of those below it."""
+
+    def __init__(self, top, below, lines, log):
+        self.top, self.lines, self.log = top, lines, log
+        self.under = crates_under(needed(below), below)
+
+    def crate(self, name):
+        return self.top / name / "crates" / name
+
+    def lay_out(self, name):
+        """Copies the sources of the crate, and what stands of those below it. What earlier builds kept of it
+        stays."""
+        for part in PARTS:
+            shutil.rmtree(self.crate(name) / part, ignore_errors=True)
             if (ROOT / "crates" / name / part).is_dir():
-                shutil.copytree(ROOT / "crates" / name / part, place / "crates" / name / part)
-    (place / "crates.txt").write_text("".join(f"{lines[it]}\n" for it in names), encoding="utf-8")
+                shutil.copytree(ROOT / "crates" / name / part, self.crate(name) / part)
+        for other in self.under[name]:
+            here = self.top / name / "crates" / other
+            shutil.rmtree(here, ignore_errors=True)
+            for part in (*PARTS, "out/rlib"):
+                if (self.crate(other) / part).is_dir():
+                    shutil.copytree(self.crate(other) / part, here / part, copy_function=link_or_copy)
+        lines = [self.lines[it] for it in (*self.under[name], name)]
+        (self.top / name / "crates.txt").write_text("\n".join(lines) + "\n", encoding="utf-8")
+
+    def prove(self, name, jobs):
+        """Proves a crate by so many jobs, over those below it, and leaves its library. Answers whether it is
+        proved."""
+        self.lay_out(name)
+        run = subprocess.run(
+            ["rt", "check" if name == CLI else "lib", "--jobs", str(jobs)], cwd=self.crate(name),
+            stdin=subprocess.DEVNULL, stdout=subprocess.PIPE, stderr=subprocess.STDOUT, text=True, check=False
+        )
+        self.log.write(f"== {name}\n{run.stdout}")
+        self.log.flush()
+        return run.returncode == 0
+
+    def compile(self):
+        """Compiles the program, over what was proved, and runs it once."""
+        run = subprocess.run(
+            ["rt", "run", "--", "enumerate"], cwd=self.crate(CLI), input="p cnf 0 0\n",
+            stdout=self.log, stderr=subprocess.STDOUT, text=True, check=False
+        )
+        return run.returncode == 0
 
 
-def prove_beside(place, names, left, log):
-    """Proves these crates, as many at the same time as there are processors. Says which are proved, and how many
-    of the program's are then left. Answers whether all are."""
-    waiting, at = set(names), None
-    with subprocess.Popen(
-        ["rt", "all", "check", "--jobs", str(processors())], cwd=place,
-        stdin=subprocess.DEVNULL, stdout=subprocess.PIPE, stderr=subprocess.STDOUT, text=True
-    ) as run:
-        for line in run.stdout:
-            log.write(line)
-            if line.startswith("== "):
-                at = line[3:].strip()
-            if line.startswith("logic=proved") and at in waiting:
-                waiting.remove(at)
-                left -= 1
-                say(f"{at} is proved, {left} crates are left")
-    log.flush()
-    return run.returncode == 0
-
-
-def prove_one(place, name, log):
-    """Proves a crate whose others are proved, by all processors. Answers whether it is proved."""
-    log.write(f"== {name}\n")
-    log.flush()
-    run = subprocess.run(
-        ["rt", "check", "--jobs", str(processors())], cwd=place / "crates" / name,
-        stdin=subprocess.DEVNULL, stdout=log, stderr=subprocess.STDOUT, text=True, check=False
-    )
-    return run.returncode == 0
-
-
-def prove(place, names, below, lines, log):
-    """Proves the crates, those that have others beside them at the same time. Answers whether all are."""
-    row = in_a_row(names, below)
-    beside = names[:len(names) - len(row)]
-    lay_out(place, beside, lines)
-    if beside and not prove_beside(place, beside, len(names), log):
-        return False
-    lay_out(place, names, lines)
-    for at, name in enumerate(row, 1):
-        if not prove_one(place, name, log):
-            return False
-        say(f"{name} is proved, {len(row) - at} crates are left")
+def prove_all(place, names, below):
+    """Proves the crates side by side, each once those below it are, and first those on which the heaviest
+    chains stand; processors that no crate waits for go to the ones that begin. A proof has two jobs for each
+    of its processors, since some of them are free again before it ends. Says which are done. Answers whether
+    all are."""
+    weights, free = weights_of_chains(names, below), processors()
+    waiting, running, proved = sorted(names, key=lambda name: -weights[name]), {}, set()
+    with ThreadPoolExecutor(free) as pool:
+        while len(proved) < len(names):
+            ready = [it for it in waiting if proved.issuperset(place.under[it])]
+            for at, name in enumerate(ready[:free]):
+                share = max(1, free // (len(ready) - at))
+                waiting.remove(name)
+                running[pool.submit(place.prove, name, min(MOST_JOBS, 2 * share))] = name, share
+                free -= share
+            for done in wait(running, return_when=FIRST_COMPLETED).done:
+                name, share = running.pop(done)
+                free += share
+                if not done.result():
+                    say(f"{name} is not proved; waiting for what else was begun")
+                    return False
+                proved.add(name)
+                say(f"{name} is proved, {len(names) - len(proved)} of {len(names)} crates are left")
     return True
-
-
-def compile_program(place, log):
-    """Compiles the program, over what was proved, and runs it once."""
-    run = subprocess.run(
-        ["rt", "run", "--", "enumerate"],
-        cwd=place / "crates" / CLI, input="p cnf 0 0\n", stdout=log, stderr=subprocess.STDOUT, text=True, check=False
-    )
-    return run.returncode == 0
 
 
 def build(program):
     lines, below = crate_lines()
     names = needed(below)
-    place = program.parent
-    place.mkdir(parents=True, exist_ok=True)
-    with open(place / "lock", "w", encoding="utf-8") as lock:
+    top = program.parent
+    top.mkdir(parents=True, exist_ok=True)
+    with open(top / "lock", "w", encoding="utf-8") as lock:
         try:
             fcntl.flock(lock, fcntl.LOCK_EX | fcntl.LOCK_NB)
         except BlockingIOError:
@@ -162,18 +190,18 @@ def build(program):
             return True
         say(f"building the program: {len(names)} crates, each proved before it is compiled")
         begun = time.time_ns()
-        with open(place / "build.log", "w", encoding="utf-8") as log:
-            if not prove(place, names, below, lines, log):
+        with open(top / "build.log", "w", encoding="utf-8") as log:
+            place = Place(top / "crates", below, lines, log)
+            if not prove_all(place, names, below):
                 return False
             say("all is proved; compiling")
-            log.flush()
-            if not compile_program(place, log):
+            if not place.compile():
                 return False
-        made = place / "crates" / CLI / "out" / CLI
-        shutil.copy(made, place / "new")
+        new = top / "new"
+        shutil.copy(place.crate(CLI) / "out" / CLI, new)
         # A source that was changed meanwhile is newer than the program.
-        os.utime(place / "new", ns=(begun, begun))
-        os.replace(place / "new", program)
+        os.utime(new, ns=(begun, begun))
+        os.replace(new, program)
     return True
 
 
