@@ -3,8 +3,9 @@
 
 Everything is proved before it is compiled. Crates that do not stand on each other are proved at the same
 time, by all processors: each in a folder of its own, beside the libraries of those below it, since two calls
-of `rt` wait for each other where they share a crate's folder. Standard error gets a line for each crate that
-is proved, and the path of the log where something fails. While one call builds, a second one waits for it.
+of `rt` wait for each other where they share a crate's folder. Each proof has one job: more of them take two or
+three times the processor time for it, and end little sooner. Standard error gets a line for each crate as it
+is begun, and the path of the log where something fails. While one call builds, a second one waits for it.
 """
 import fcntl
 import os
@@ -20,8 +21,6 @@ ROOT = pathlib.Path(__file__).resolve().parent.parent
 CLI = "allsat_cli"
 # What a proof may take, in bytes, so that no more run at a time than memory holds.
 MEMORY_OF_A_CHECK = 2_500_000_000
-# A proof by more jobs than these gains nothing.
-MOST_JOBS = 4
 SOURCES = (".rt", ".antt")
 PARTS = ("src", "specs", "proofs")
 
@@ -128,50 +127,39 @@ class Place:
         lines = [self.lines[it] for it in (*self.under[name], name)]
         (self.top / name / "crates.txt").write_text("\n".join(lines) + "\n", encoding="utf-8")
 
-    def prove(self, name, jobs):
-        """Proves a crate by so many jobs, over those below it, and leaves its library. Answers whether it is
-        proved."""
+    def prove(self, name):
+        """Proves a crate, over those below it, and leaves its library; the program is compiled and run once.
+        Answers whether it is proved."""
         self.lay_out(name)
+        ask = ["run", "--jobs", "1", "--", "enumerate"] if name == CLI else ["lib", "--jobs", "1"]
         run = subprocess.run(
-            ["rt", "check" if name == CLI else "lib", "--jobs", str(jobs)], cwd=self.crate(name),
-            stdin=subprocess.DEVNULL, stdout=subprocess.PIPE, stderr=subprocess.STDOUT, text=True, check=False
+            ["rt", *ask], cwd=self.crate(name), input="p cnf 0 0\n",
+            stdout=subprocess.PIPE, stderr=subprocess.STDOUT, text=True, check=False
         )
         self.log.write(f"== {name}\n{run.stdout}")
         self.log.flush()
         return run.returncode == 0
 
-    def compile(self):
-        """Compiles the program, over what was proved, and runs it once."""
-        run = subprocess.run(
-            ["rt", "run", "--", "enumerate"], cwd=self.crate(CLI), input="p cnf 0 0\n",
-            stdout=self.log, stderr=subprocess.STDOUT, text=True, check=False
-        )
-        return run.returncode == 0
-
 
 def prove_all(place, names, below):
     """Proves the crates side by side, each once those below it are, and first those on which the heaviest
-    chains stand; processors that no crate waits for go to the ones that begin. A proof has two jobs for each
-    of its processors, since some of them are free again before it ends. Says which are done. Answers whether
-    all are."""
-    weights, free = weights_of_chains(names, below), processors()
+    chains stand. Says which is begun and how many are left. Answers whether all are proved."""
+    weights = weights_of_chains(names, below)
     waiting, running, proved = sorted(names, key=lambda name: -weights[name]), {}, set()
+    free = processors()
     with ThreadPoolExecutor(free) as pool:
         while len(proved) < len(names):
             ready = [it for it in waiting if proved.issuperset(place.under[it])]
-            for at, name in enumerate(ready[:free]):
-                share = max(1, free // (len(ready) - at))
+            for name in ready[:free - len(running)]:
                 waiting.remove(name)
-                running[pool.submit(place.prove, name, min(MOST_JOBS, 2 * share))] = name, share
-                free -= share
+                say(f"proving {name}; {len(names) - len(proved)} of {len(names)} crates are left")
+                running[pool.submit(place.prove, name)] = name
             for done in wait(running, return_when=FIRST_COMPLETED).done:
-                name, share = running.pop(done)
-                free += share
+                name = running.pop(done)
                 if not done.result():
                     say(f"{name} is not proved; waiting for what else was begun")
                     return False
                 proved.add(name)
-                say(f"{name} is proved, {len(names) - len(proved)} of {len(names)} crates are left")
     return True
 
 
@@ -193,9 +181,6 @@ def build(program):
         with open(top / "build.log", "w", encoding="utf-8") as log:
             place = Place(top / "crates", below, lines, log)
             if not prove_all(place, names, below):
-                return False
-            say("all is proved; compiling")
-            if not place.compile():
                 return False
         new = top / "new"
         shutil.copy(place.crate(CLI) / "out" / CLI, new)
