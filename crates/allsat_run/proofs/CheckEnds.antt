@@ -1,5 +1,5 @@
 -- What is read of a source and the check of it are what a run of the check promises.
-use Rattle.std.proofs.Common.{◌≡◌, ◌≢◌, ◌⊎◌, ℕ, List, ℤ, Option, Some, None, Ok, refl, sym, subst, inl, inr}
+use Rattle.std.proofs.Common.{◌≡◌, ◌≢◌, List, Option, Some, None, Ok, refl, sym, subst, inl, inr}
 use Rattle.fault_io.specs.Sources.{SourceView}
 use Rattle.fault_io.specs.Sinks.{SinkView}
 use Rattle.cube_check.specs.declared.met.Met.{Met}
@@ -10,9 +10,8 @@ use Rattle.dimacs_front.specs.Answers.{ReadsText, IsWithinLimits, IsMetOf}
 use Rattle.region_book.specs.Arranged.{ArrangedView}
 use Rattle.cube_check.specs.Verdicts.{IsVerdict}
 use Rattle.allsat_run.specs.declared.status.Status.{Status}
-use Rattle.allsat_run.specs.declared.status.Status.TheVariants.{Finished, OutOfMemory, WriteFault, CheckedNo}
 use Rattle.allsat_run.specs.Run.{CountsReadFault}
-use Rattle.allsat_run.specs.Checking.{status_of, WritesVerdict, ChecksMet, ChecksLines, ChecksInput, Judges, SaysCheck, AnswersCheck}
+use Rattle.allsat_run.specs.Checking.{WritesVerdict, ChecksLines, ChecksInput, Judges, SaysCheck, AnswersCheck}
 
 module _ {S K : Type 0} (source : S → SourceView) (sink : K → SinkView) (input input' : S) where
   -- a text that says an input

@@ -1,13 +1,12 @@
 -- What a search of the drill comes to is what a run of it promises.
-use Rattle.std.proofs.Common.{◌≡◌, ◌≢◌, ◌⊎◌, ℕ, zero, suc, ◌+◌, ◌<◌, ◌≤◌, ◌^◌, Bool, true, false, nat_abs, List, [], ◌∷◌, ◌++◌, length, length-append, map, ℤ, Option, Some, None, refl, sym, ap, subst, ◌∙◌, inl, inr, arith}
+use Rattle.std.proofs.Common.{◌≡◌, ◌≢◌, ◌⊎◌, ℕ, zero, suc, ◌+◌, ◌≤◌, Bool, true, false, List, [], ◌∷◌, length, length-append, ℤ, None, refl, sym, ap, subst, ◌∙◌, inl, inr, arith}
 use Rattle.std.specs.List.{list_any}
 use Rattle.std.proofs.lemmas.Bool.{both_ways}
 use Rattle.std.proofs.lemmas.List.{length-map}
 use Rattle.std.proofs.lemmas.List.Elements.{All-weaker}
 use Rattle.std.proofs.lemmas.List.Sums.{sum_by-le}
 use Rattle.sat_terms.specs.Assignments.{IsGood, lies_in}
-use Rattle.sat_terms.specs.Cubes.{has_literal, is_among}
-use Rattle.sat_terms.specs.RightList.{IsRightList, IsWanted}
+use Rattle.sat_terms.specs.RightList.{IsRightList}
 use Rattle.fault_io.specs.Faults.{Rose}
 use Rattle.fault_io.specs.Sinks.{SinkView}
 use Rattle.dimacs_front.specs.Answers.{IsWithinLimits}

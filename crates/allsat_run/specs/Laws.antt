@@ -1,5 +1,5 @@
 -- A run that stopped, and the one that goes on from its text.
-use Rattle.std.specs.Prelude.{◌≡◌, ◌≢◌, ℕ, ◌≤◌, ◌^◌, [], length, Option, Some, Ok}
+use Rattle.std.specs.Prelude.{◌≡◌, ◌≢◌, ◌≤◌, ◌^◌, [], length, Some, Ok}
 use Rattle.dimacs_front.specs.declared.input.Input.{Input}
 use Rattle.dimacs_front.specs.SavedLaws.{saved_input}
 use Rattle.dimacs_front.specs.Whole.{reads}

@@ -7,18 +7,16 @@ use Rattle.dimacs_tokens.specs.Seen.{seen_token, is_nil}
 use Rattle.dimacs_tokens.proofs.NumberLaws.{words_by_head}
 use Rattle.sat_terms.specs.Cubes.{rises_above, last_variable}
 use Rattle.dimacs_front.specs.declared.refused.TextRefused.{TextRefused}
-use Rattle.dimacs_front.specs.declared.refused.TextRefused.TheVariants.{SavedBad}
 use Rattle.dimacs_front.specs.declared.saved_place.OpenList.TheVariants.{Shown, Hidden}
-use Rattle.dimacs_front.specs.declared.saved_place.SavedPlace.TheVariants.{MetFirst, Listed, Complete}
+use Rattle.dimacs_front.specs.declared.saved_place.SavedPlace.TheVariants.{MetFirst, Listed}
 use Rattle.dimacs_front.specs.declared.line_place.LinePlace.TheVariants.{Beginning, Saved}
 use Rattle.dimacs_front.specs.Limits.{most_variables}
 use Rattle.dimacs_front.specs.Steps.{and_then, needs}
-use Rattle.dimacs_front.specs.ListLines.{list_says, is_literal}
 use Rattle.dimacs_front.specs.SavedTexts.{SavedSaid, is_met_version, rising_says, up_to_zero, behind_zero, with_met, hidden_says, met_says}
 use Rattle.dimacs_front.specs.Machine.{StateView, at_place, refuse, literal_listed, list_ended, listed_eaten, met_named, eaten, closed}
 use Rattle.dimacs_front.proofs.SavedSteps.{last_pushed}
 use Rattle.dimacs_front.proofs.Ties.{Met, met_same, met_as, met_map, refused_line, refused_closed}
-use Rattle.dimacs_front.proofs.SavedTie.{below_saved, bad, ends, list, rising, nothing, complete_closed, complete_refused, none_listed, falls_more, first_of_list, met_more_rising, listed_met}
+use Rattle.dimacs_front.proofs.SavedTie.{below_saved, bad, ends, list, rising, complete_closed, complete_refused, none_listed, falls_more, first_of_list, listed_met}
 
 module _ (n : ℕ) where
   -- ---- the first line

@@ -1,5 +1,5 @@
 -- The show lines are kept with rising numbers.
-use Rattle.std.proofs.Common.{◌≡◌, ℕ, ◌+◌, ◌<◌, ◌≤◌, Bool, true, false, not, cond, ◌&&◌, eqb, List, [], ◌∷◌, map, drop, ℤ, Option, Some, None, Result, Ok, Err, refl, sym, subst, arith}
+use Rattle.std.proofs.Common.{◌≡◌, ℕ, ◌+◌, ◌<◌, ◌≤◌, Bool, true, false, not, cond, List, [], ◌∷◌, map, drop, ℤ, Option, Some, None, Result, Ok, Err, refl, sym, subst, arith}
 use Rattle.std.specs.Prelude.{codes}
 use Rattle.std.specs.List.{All, AllPairs}
 use Rattle.std.proofs.lemmas.List.Elements.{All-nil, All-push}
@@ -13,7 +13,7 @@ use Rattle.dimacs_front.specs.Steps.{and_then, steps}
 use Rattle.dimacs_front.specs.HeaderLines.{Below, header_says}
 use Rattle.dimacs_front.specs.NumberLines.{numbers_say}
 use Rattle.dimacs_front.specs.ListLines.{ListLine, list_says, is_variable, under_says}
-use Rattle.dimacs_front.specs.LineWords.{begins_by, words_of, own_words}
+use Rattle.dimacs_front.specs.LineWords.{begins_by, words_of}
 use Rattle.dimacs_front.specs.SavedTexts.{saved_says}
 use Rattle.dimacs_front.specs.TextLines.{Said, with_below, with_show, with_given, with_saved, comment_says, plain_says, line_says, Lines, no_line, next_line, lines_say}
 use Rattle.dimacs_front.specs.TextLaws.{ShowLinesRise}

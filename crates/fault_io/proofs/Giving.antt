@@ -1,6 +1,5 @@
 -- Several calls of a source in a row.
 use Rattle.std.proofs.Common.{List, ℕ, [], ◌++◌, refl, ◌∙◌}
-use Rattle.fault_io.specs.Bytes.{Consumes}
 use Rattle.fault_io.specs.Sources.{SourceView, GivesBytes}
 use Rattle.fault_io.proofs.Consumes.{Consumes-nil, Consumes-more}
 

@@ -1,8 +1,8 @@
 -- Values that were copied off a trail.
-use Rattle.std.proofs.Common.{◌≡◌, ℕ, zero, suc, ◌+◌, ◌-◌, ◌<◌, ◌≤◌, Bool, true, false, cond, int_lt, min, nat_eq, nat_lt, List, [], ◌∷◌, ◌++◌, length, get_or, set, take, drop, filter, Option, Some, None, ℤ, pos, negsuc, neg_ℤ, nat_abs, ◌&&◌, refl, sym, ap, subst, ◌∙◌, length-append, length-set, get_or-set_same, get_or-set_other, inl, inr, arith}
-use Rattle.std.specs.List.{list_all, list_any}
+use Rattle.std.proofs.Common.{◌≡◌, ℕ, zero, suc, ◌+◌, ◌<◌, ◌≤◌, Bool, true, false, cond, int_lt, min, nat_eq, List, [], ◌∷◌, ◌++◌, length, get_or, set, take, drop, filter, Some, None, ℤ, pos, negsuc, neg_ℤ, nat_abs, refl, sym, ap, ◌∙◌, length-append, get_or-set_same, get_or-set_other, inl, inr, arith}
+use Rattle.std.specs.List.{list_all}
 use Rattle.std.specs.Ordering.{int_eq}
-use Rattle.std.proofs.lemmas.Bool.{and_parts, and_from, lt-ltb, cases_Bool, eqb-true, eq-eqb}
+use Rattle.std.proofs.lemmas.Bool.{and_parts, and_from, lt-ltb, cases_Bool, eq-eqb}
 use Rattle.std.proofs.lemmas.List.{take-append-le, take-take, take_more, length-take}
 use Rattle.std.proofs.lemmas.List.Folds.{list_all-append}
 use Rattle.sat_terms.proofs.CubeLemmas.{int_eq-same}
@@ -10,7 +10,7 @@ use Rattle.chrono_trail.specs.declared.item.Item.{Item}
 use Rattle.chrono_trail.specs.Items.{item_of, is_upto, are_distinct}
 use Rattle.conflict_analysis.proofs.Places.{none_before}
 use Rattle.implicant_shrink.specs.Levels.{marked}
-use Rattle.live_engine.specs.Values.{literal_at, has_value, AreCopied}
+use Rattle.live_engine.specs.Values.{has_value, AreCopied}
 
 -- items that join
 pub copied_more : (xs ys : List Item) (count : ℕ) (values : List Bool) → AreCopied xs count values → AreCopied (xs ++ ys) count values

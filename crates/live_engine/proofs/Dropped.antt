@@ -1,12 +1,12 @@
 -- Lemmas that are dropped.
-use Rattle.std.proofs.Common.{◌≡◌, ℕ, ◌+◌, ◌<◌, ◌≤◌, ◌^◌, Bool, List, [], ◌∷◌, ◌++◌, length, take, drop, filter, nat_le, ℤ, refl, sym, ap, subst, ◌∙◌, length-append, arith, All}
-use Rattle.std.proofs.lemmas.List.{take-append-le, drop-append-le, take_all, drop_all, length-take, length-drop, take-append-drop}
+use Rattle.std.proofs.Common.{◌≡◌, ℕ, ◌≤◌, List, [], ◌++◌, length, take, drop, filter, nat_le, ℤ, refl, ap, ◌∙◌, length-append, arith, All}
+use Rattle.std.proofs.lemmas.List.{take-append-le, drop-append-le, take_all, drop_all, length-take, length-drop}
 use Rattle.std.proofs.lemmas.List.Elements.{All-append, All-take, All-drop, All-filter}
 use Rattle.std.proofs.lemmas.List.Sums.{length-filter, count_by-le-length}
 use Rattle.sat_terms.specs.Literals.{IsLiteralOf}
 use Rattle.search_region.specs.Steady.{Follows}
 use Rattle.clause_arena.specs.Clauses.{Clauses, without_long}
-use Rattle.chrono_trail.specs.Trails.{TrailView, IsTrail}
+use Rattle.chrono_trail.specs.Trails.{TrailView}
 use Rattle.propagation.specs.Settled.{PropagatorView, Watches}
 use Rattle.propagation.proofs.Settled.{settled_unseen}
 use Rattle.live_engine.specs.declared.search.Search.{Search}

@@ -1,5 +1,5 @@
 -- A prefix that was just assumed is the one that the search is in.
-use Rattle.std.proofs.Common.{◌≡◌, ℕ, zero, suc, ◌<◌, ◌≤◌, Bool, true, false, not, ◌&&◌, ◌||◌, cond, nat_eq, nat_lt, List, [], ◌∷◌, ◌++◌, length, get_or, filter_map, option_to_list, Option, Some, None, ℤ, nat_abs, refl, sym, ap, subst, ◌∙◌, inl, inr, arith, All}
+use Rattle.std.proofs.Common.{◌≡◌, ℕ, ◌<◌, ◌≤◌, Bool, true, false, cond, nat_eq, nat_lt, List, [], ◌∷◌, ◌++◌, filter_map, option_to_list, Option, Some, None, ℤ, nat_abs, refl, sym, ap, subst, ◌∙◌, inl, inr, arith, All}
 use Rattle.std.specs.List.{list_all, list_any}
 use Rattle.std.specs.List.Sorted.{IsStrictlyIncreasing}
 use Rattle.std.specs.Ordering.{int_eq}

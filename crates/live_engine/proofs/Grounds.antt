@@ -1,5 +1,5 @@
 -- What each move leaves of the ground of a search.
-use Rattle.std.proofs.Common.{Bool, ◌≡◌, ℕ, ◌≤◌, ◌^◌, List, ◌++◌, length, take, refl, sym, ap, subst, ◌∙◌, arith, All, Vec, Global, ℤ}
+use Rattle.std.proofs.Common.{Bool, ◌≡◌, ℕ, ◌≤◌, ◌^◌, List, length, take, refl, sym, ap, subst, ◌∙◌, All, Vec, Global, ℤ}
 use Rattle.std.proofs.lemmas.List.{take-append-le}
 use Rattle.sat_terms.specs.Literals.{IsLiteralOf}
 use Rattle.sat_terms.specs.Cubes.{IsCube}

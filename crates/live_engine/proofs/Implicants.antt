@@ -1,5 +1,5 @@
 -- The cube of a model and its hidden literals meet each clause.
-use Rattle.std.proofs.Common.{◌≡◌, ℕ, ◌+◌, ◌<◌, ◌≤◌, Bool, true, false, not, cond, ◌&&◌, ◌||◌, nat_eq, nat_le, nat_lt, List, [], ◌∷◌, ◌++◌, length, map, filter, filter_map, option_to_list, Option, Some, None, ℤ, pos, neg_ℤ, nat_abs, refl, sym, ap, subst, ◌∙◌, inl, inr, arith}
+use Rattle.std.proofs.Common.{◌≡◌, ℕ, ◌<◌, ◌≤◌, Bool, true, false, not, cond, ◌||◌, nat_eq, nat_le, nat_lt, List, [], ◌∷◌, ◌++◌, map, filter, filter_map, option_to_list, Option, Some, None, ℤ, pos, neg_ℤ, nat_abs, refl, sym, ap, subst, ◌∙◌, inl, inr, arith}
 use Rattle.std.specs.List.{list_all, list_any, range_with_len}
 use Rattle.std.specs.Ordering.{int_eq}
 use Rattle.std.proofs.lemmas.Bool.{and_parts, and_from, or_cases, or_left, or_right, cases_Bool, eqb-true, eq-eqb, ltb-true, leb-true, false_from_ne_true}
@@ -7,7 +7,6 @@ use Rattle.std.proofs.lemmas.Int.{ints}
 use Rattle.std.proofs.lemmas.List.Elements.{filter_map-append}
 use Rattle.std.proofs.lemmas.List.Folds.{list_any-append}
 use Rattle.sat_terms.specs.Cubes.{is_among, has_literal, has_pair}
-use Rattle.sat_terms.specs.Literals.{IsLiteralOf}
 use Rattle.sat_terms.proofs.CubeLemmas.{int_eq-same, int_eq-true}
 use Rattle.search_region.specs.Trail as picture
 use Rattle.search_region.specs.Model.{is_met, is_kept}
@@ -17,8 +16,8 @@ use Rattle.chrono_trail.specs.declared.item.Item.{Item}
 use Rattle.chrono_trail.specs.Items.{item_of, is_within, are_distinct}
 use Rattle.chrono_trail.specs.Pictures.{picture_of}
 use Rattle.chrono_trail.proofs.Splits.{found_is}
-use Rattle.projected_decide.proofs.Variables.{among-filter, among_range, range_among}
-use Rattle.implicant_shrink.specs.Levels.{level_by, is_at_most, is_kept_at}
+use Rattle.projected_decide.proofs.Variables.{among-filter, among_range}
+use Rattle.implicant_shrink.specs.Levels.{level_by, is_at_most}
 use Rattle.implicant_shrink.proofs.Kept.{kept_at}
 use Rattle.live_engine.specs.Values.{literal_at, hidden_literals, IsImplicant, has_value}
 use Rattle.live_engine.specs.Engines.{value_in_list}

@@ -1,11 +1,10 @@
 -- A lemma joins the clauses, and may turn a decision over.
-use Rattle.std.proofs.Common.{◌≡◌, IfSome, ℕ, ◌+◌, ◌-◌, ◌<◌, ◌≤◌, Bool, true, false, cond, List, [], ◌∷◌, ◌++◌, length, get_or, take, filter, find, Option, Some, None, ℤ, pos, neg_ℤ, nat_abs, refl, sym, ap, subst, subst₂, ◌∙◌, append-nil, length-append, arith, All}
-use Rattle.std.specs.List.{list_all}
+use Rattle.std.proofs.Common.{◌≡◌, IfSome, ℕ, ◌+◌, ◌-◌, ◌<◌, ◌≤◌, Bool, true, false, cond, List, [], ◌∷◌, ◌++◌, length, get_or, take, filter, find, Option, Some, None, ℤ, pos, neg_ℤ, refl, sym, ap, subst, subst₂, ◌∙◌, append-nil, length-append, arith, All}
 use Rattle.std.proofs.lemmas.List.{take_all, take-append-le, get_or_push}
 use Rattle.std.proofs.lemmas.List.Elements.{All-nil, All-push}
 use Rattle.sat_terms.specs.Literals.{IsLiteralOf}
 use Rattle.sat_terms.specs.Cubes.{has_literal}
-use Rattle.sat_terms.specs.Truth.{sat, sat_clause}
+use Rattle.sat_terms.specs.Truth.{sat_clause}
 use Rattle.search_region.specs.Steady.{Follows}
 use Rattle.clause_arena.specs.Clauses.{Clauses}
 use Rattle.chrono_trail.specs.declared.item.Kind.TheVariants.{Turned}
@@ -16,7 +15,7 @@ use Rattle.chrono_trail.specs.Clauses.{IsReason, rest_level}
 use Rattle.propagation.specs.Settled.{PropagatorView, IsSettled}
 use Rattle.propagation.proofs.Settled.{settled_back}
 use Rattle.projected_decide.specs.Orders.{OrderView, HasPassed}
-use Rattle.conflict_analysis.specs.Lemmas.{IsLearnt, asserted, negation_in}
+use Rattle.conflict_analysis.specs.Lemmas.{IsLearnt, negation_in}
 use Rattle.conflict_analysis.proofs.Reasons.{asserting_is_reason}
 use Rattle.live_engine.specs.declared.search.Search.{Search}
 use Rattle.live_engine.specs.declared.learning.Taught.{Taught}

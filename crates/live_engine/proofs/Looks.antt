@@ -1,25 +1,17 @@
 -- What looks at the trail tell: of its picture, of models, and of the literals of a cube.
-use Rattle.std.proofs.Common.{◌≡◌, ℕ, ◌<◌, Bool, true, false, cond, ◌||◌, nat_eq, nat_le, ℤ, nat_abs, List, [], ◌∷◌, ◌++◌, length, get_or, take, Option, Some, None, is_some, is_none, refl, sym, ap, subst, ◌∙◌, append_assoc, append-nil, inl, inr, ◌+◌, filter_map, option_to_list, All}
-use Rattle.std.specs.List.{list_any, list_all}
-use Rattle.std.specs.Option.{option_or}
-use Rattle.std.specs.Ordering.{int_eq}
-use Rattle.std.proofs.lemmas.Bool.{and_parts, and_from, both_ways, cases_Bool, eqb-true, eq-eqb, false_from_ne_true, and_cases, or_left, or_right}
+use Rattle.std.proofs.Common.{◌≡◌, ℕ, ◌<◌, Bool, true, false, cond, nat_eq, nat_le, ℤ, nat_abs, List, [], ◌∷◌, ◌++◌, length, get_or, take, Option, Some, None, is_some, is_none, refl, sym, ap, subst, ◌∙◌, append_assoc, append-nil, inl, inr, ◌+◌, filter_map, option_to_list, All}
+use Rattle.std.specs.List.{list_all}
+use Rattle.std.proofs.lemmas.Bool.{and_parts, and_from, cases_Bool}
 use Rattle.std.proofs.lemmas.List.{take_more}
-use Rattle.std.proofs.lemmas.List.Folds.{find-append}
 use Rattle.std.proofs.lemmas.List.Elements.{filter_map-append, All-head, All-tail}
-use Rattle.sat_terms.specs.Literals.{IsLiteralOf}
-use Rattle.sat_terms.proofs.CubeLemmas.{int_eq-same, int_eq-true}
 use Rattle.search_region.specs.Trail as picture
 use Rattle.search_region.specs.Steady.{Steady}
 use Rattle.search_region.specs.ReadCube.{picked_literal, read_cube}
 use Rattle.search_region.proofs.Back.{unassigned_newer}
-use Rattle.search_region.proofs.Literals.{all_weaker}
 use Rattle.search_region.proofs.ReadCube.{picked_literal-oldest}
 use Rattle.chrono_trail.specs.declared.item.Item.{Item}
 use Rattle.chrono_trail.specs.Items.{item_of, are_distinct}
-use Rattle.chrono_trail.specs.Clauses.{is_true, is_false}
 use Rattle.chrono_trail.specs.Pictures.{pictured, picture_of}
-use Rattle.chrono_trail.proofs.Clauses.{false_from_other}
 use Rattle.chrono_trail.proofs.Items.{none_is}
 use Rattle.chrono_trail.proofs.Pictures.{is_assigned-picture}
 

@@ -1,8 +1,6 @@
 -- The moves of the search that make its trail longer.
-use Rattle.std.proofs.Common.{append-nil, ◌≡◌, ℕ, suc, ◌+◌, ◌<◌, ◌≤◌, Bool, true, false, ℤ, pos, neg_ℤ, nat_abs, List, [], ◌∷◌, ◌++◌, length, get_or, set, Some, None, is_some, refl, sym, ap, subst, subst₂, ◌∙◌, arith, Vec, Global, get_or-set_same, get_or-set_other, length-set}
-use Rattle.sat_terms.specs.Literals.{IsLiteralOf}
+use Rattle.std.proofs.Common.{append-nil, ◌≡◌, ℕ, suc, ◌+◌, ◌<◌, ◌≤◌, Bool, true, false, ℤ, nat_abs, List, [], ◌∷◌, ◌++◌, length, get_or, set, Some, None, is_some, refl, sym, ap, subst, subst₂, ◌∙◌, arith, Vec, Global, get_or-set_same, get_or-set_other, length-set}
 use Rattle.sat_terms.specs.Cubes.{is_among}
-use Rattle.sat_terms.proofs.CubeLemmas.{nat_abs-neg}
 use Rattle.search_region.specs.Trail as picture
 use Rattle.search_region.specs.Region.{left_open}
 use Rattle.search_region.specs.Work.{work}
@@ -14,7 +12,7 @@ use Rattle.search_job.proofs.Decide.{decide_keeps_working}
 use Rattle.search_job.proofs.Same.{counts_shown}
 use Rattle.chrono_trail.specs.declared.item.Kind.TheVariants.{Decided}
 use Rattle.chrono_trail.specs.declared.item.Item.{Item}
-use Rattle.chrono_trail.specs.Items.{item_of, is_decision, decisions_from}
+use Rattle.chrono_trail.specs.Items.{is_decision, decisions_from}
 use Rattle.chrono_trail.specs.Trails.{TrailView, IsTrail}
 use Rattle.chrono_trail.specs.Pictures.{pictured, picture_of}
 use Rattle.chrono_trail.proofs.Decisions.{decisions_count}
@@ -34,8 +32,6 @@ use Rattle.projected_decide.specs.Laws.{IsLowestFree}
 use Rattle.projected_decide.proofs.Lowest.{decisions_are_lowest, none_means_full}
 use Rattle.projected_decide.proofs.Moving.{appending_keeps_passed}
 use Rattle.live_engine.specs.Steps.{AreAllSet}
-use Rattle.std.proofs.lemmas.List.Elements.{All-nil}
-use Rattle.search_region.specs.Steady.{Follows}
 use Rattle.live_engine.specs.Values.{AreCopied}
 use Rattle.live_engine.proofs.Copies.{copied_more}
 use Rattle.live_engine.proofs.Grounds.{ground_with, same_stands}

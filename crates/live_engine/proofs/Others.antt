@@ -1,5 +1,5 @@
 -- The other side of a decision joins the trail, once its level is taken back.
-use Rattle.std.proofs.Common.{◌≡◌, ℕ, ◌+◌, ◌-◌, ◌<◌, ◌≤◌, Bool, List, [], ◌∷◌, ◌++◌, length, get_or, take, filter, find, Some, None, ℤ, neg_ℤ, nat_abs, refl, sym, ap, subst, subst₂, ◌∙◌, append-nil, arith, All}
+use Rattle.std.proofs.Common.{◌≡◌, ℕ, ◌-◌, ◌<◌, ◌≤◌, Bool, List, [], ◌∷◌, ◌++◌, length, filter, find, Some, None, ℤ, neg_ℤ, nat_abs, refl, sym, ap, subst, subst₂, ◌∙◌, append-nil, arith, All}
 use Rattle.std.proofs.lemmas.List.Elements.{All-nil}
 use Rattle.sat_terms.specs.Literals.{IsLiteralOf}
 use Rattle.sat_terms.specs.Cubes.{is_among}
@@ -8,8 +8,7 @@ use Rattle.clause_arena.specs.Clauses.{Clauses}
 use Rattle.chrono_trail.specs.declared.item.Kind.{Kind}
 use Rattle.chrono_trail.specs.declared.item.Kind.TheVariants.{Flipped}
 use Rattle.chrono_trail.specs.declared.item.Item.{Item}
-use Rattle.chrono_trail.specs.Items.{decides, is_upto, item_of, is_decision}
-use Rattle.chrono_trail.specs.Trails.{TrailView, IsTrail}
+use Rattle.chrono_trail.specs.Items.{decides, is_upto, item_of}
 use Rattle.chrono_trail.proofs.Splits.{backtracking_frees, decisions_are_within}
 use Rattle.propagation.specs.Settled.{PropagatorView, IsSettled}
 use Rattle.propagation.proofs.Settled.{settled_push, settled_back}

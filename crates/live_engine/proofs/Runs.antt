@@ -1,7 +1,5 @@
 -- One move after another.
-use Rattle.std.proofs.Common.{◌≡◌, ℕ, ◌≤◌, ◌<◌, Bool, true, false, cond, List, ◌++◌, length, Option, Some, None, ap, refl, sym, subst, ◌∙◌, append_assoc, arith, All, ℤ, Vec, Global}
-use Rattle.std.proofs.lemmas.List.Elements.{All-append}
-use Rattle.search_region.specs.Steady.{Follows}
+use Rattle.std.proofs.Common.{◌≡◌, ℕ, ◌≤◌, ◌<◌, Bool, cond, List, ◌++◌, length, Some, None, ap, refl, sym, subst, ◌∙◌, append_assoc, arith, ℤ, Vec, Global}
 use Rattle.implicant_shrink.specs.Levels.{marked}
 use Rattle.live_engine.specs.declared.search.Search.{Search}
 use Rattle.live_engine.specs.declared.search.Leaf.{Leaf}

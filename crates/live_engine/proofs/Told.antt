@@ -1,5 +1,5 @@
 -- What is told of the last model.
-use Rattle.std.proofs.Common.{◌≡◌, ℕ, ◌<◌, ◌≤◌, Bool, true, false, not, ◌&&◌, cond, Option, Some, None, refl, sym, ap, ◌∙◌}
+use Rattle.std.proofs.Common.{◌≡◌, ℕ, ◌<◌, ◌≤◌, Bool, true, false, not, ◌&&◌, cond, Some, None, refl, sym, ap, ◌∙◌}
 use Rattle.sat_terms.specs.Cubes.{is_among}
 use Rattle.implicant_shrink.specs.Levels.{marked}
 use Rattle.live_engine.specs.declared.search.Search.{Search}

@@ -1,6 +1,6 @@
 -- The moves of the search that turn a decision over, and those that end it.
-use Rattle.std.proofs.Common.{◌≡◌, ℕ, zero, suc, ◌+◌, ◌-◌, ◌<◌, ◌≤◌, ◌^◌, Bool, true, false, not, ◌&&◌, ◌||◌, length-append, cond, min, nat_le, nat_lt, ℤ, pos, neg_ℤ, nat_abs, List, [], ◌∷◌, ◌++◌, length, get_or, take, filter, find, ◌⊎◌, Some, None, refl, sym, ap, subst, subst₂, ◌∙◌, inl, inr, arith, All, Vec, Global}
-use Rattle.std.specs.List.{list_any, list_all}
+use Rattle.std.proofs.Common.{◌≡◌, ℕ, zero, suc, ◌+◌, ◌-◌, ◌<◌, ◌≤◌, ◌^◌, Bool, true, false, ◌||◌, length-append, cond, min, nat_lt, ℤ, pos, neg_ℤ, nat_abs, List, [], ◌∷◌, ◌++◌, length, get_or, take, filter, ◌⊎◌, Some, None, refl, sym, ap, subst, subst₂, ◌∙◌, inl, inr, arith, All, Vec, Global}
+use Rattle.std.specs.List.{list_all}
 use Rattle.std.specs.Ordering.{int_eq}
 use Rattle.std.proofs.lemmas.Bool.{and_parts, and_from, lt-ltb}
 use Rattle.std.proofs.lemmas.List.{take-append-le}
@@ -30,9 +30,8 @@ use Rattle.search_job.proofs.Model.{model_keeps_working, model_ends_working}
 use Rattle.chrono_trail.specs.declared.item.Kind.{Kind}
 use Rattle.chrono_trail.specs.declared.item.Kind.TheVariants.{Assumed, Decided, Flipped, Turned, Implied}
 use Rattle.chrono_trail.specs.declared.item.Item.{Item}
-use Rattle.chrono_trail.specs.Items.{item_of, is_within, is_upto, decides, are_inside, are_distinct, reason_id}
+use Rattle.chrono_trail.specs.Items.{item_of, is_within, is_upto, are_distinct, reason_id}
 use Rattle.chrono_trail.specs.Clauses.{is_false, false_upto, is_false_clause, level_or_zero, rest_level}
-use Rattle.chrono_trail.specs.Trails.{TrailView, IsTrail}
 use Rattle.chrono_trail.specs.Reasons.{HasReason, IsReasonAt, AreReasoned}
 use Rattle.chrono_trail.specs.Pictures.{pictured, picture_of, kind_of, Splits}
 use Rattle.chrono_trail.proofs.Pictures.{picture-push, picture-grown, back-picture, false_by-picture}

@@ -1,5 +1,5 @@
 -- What a conflict teaches, and whether it is kept.
-use Rattle.std.specs.Prelude.{◌≡◌, ℕ, ◌+◌, ◌-◌, ◌<◌, ◌≤◌, Bool, true, List, [], ◌∷◌, ◌++◌, length, filter, find, take, ℤ, neg_ℤ, nat_abs, Option, Some, None, MatchBool, IfSome}
+use Rattle.std.specs.Prelude.{◌≡◌, ℕ, ◌+◌, ◌-◌, ◌<◌, ◌≤◌, Bool, List, [], ◌∷◌, ◌++◌, length, filter, find, take, ℤ, neg_ℤ, Option, Some, None, MatchBool, IfSome}
 use Rattle.std.specs.List.{All}
 use Rattle.sat_terms.specs.Literals.{IsLiteralOf}
 use Rattle.search_region.specs.Steady.{Follows}

@@ -1,5 +1,5 @@
 -- What each move of a search does.
-use Rattle.std.specs.Prelude.{◌≡◌, ℕ, suc, ◌+◌, ◌-◌, ◌<◌, ◌≤◌, ◌^◌, Bool, true, min, List, [], ◌∷◌, ◌++◌, length, filter, find, take, ℤ, neg_ℤ, nat_abs, Option, Some, None, MatchBool}
+use Rattle.std.specs.Prelude.{◌≡◌, ℕ, suc, ◌-◌, ◌<◌, ◌≤◌, ◌^◌, Bool, true, min, List, [], ◌∷◌, ◌++◌, length, filter, find, ℤ, neg_ℤ, nat_abs, Option, Some, None, MatchBool}
 use Rattle.std.specs.List.{All}
 use Rattle.sat_terms.specs.Literals.{IsLiteralOf}
 use Rattle.sat_terms.specs.Cubes.{is_among}

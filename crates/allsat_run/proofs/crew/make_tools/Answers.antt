@@ -1,6 +1,5 @@
 use Rattle.std.proofs.Common.{ap, rules, arith}
 use Rattle.live_engine.specs.Engines.{EngineView}
-use Rattle.allsat_run.specs.declared.crew.Tools.{Tools}
 use Rattle.allsat_run.specs.Crews.{ToolsView, IsTool}
 use Rattle.allsat_run.proofs.Crews.{all_with}
 use Rattle.allsat_run.proofs.crew.make_tools.Goals as goal

@@ -1,4 +1,4 @@
-use Rattle.std.proofs.Common.{rules, ◌≡◌, sym, ◌∙◌, refl, subst}
+use Rattle.std.proofs.Common.{rules, sym, ◌∙◌, refl, subst}
 use Rattle.checkpoint.specs.CubeLines.{AreCubeLine}
 use Rattle.checkpoint.proofs.CubeLineParts.{gives_cube, gives_none}
 use Rattle.checkpoint.proofs.cube_line.read_cube_line.Goals.{then-not-rise-via-then-not-rise, then-not-rise-via-else-not-rise+then-not-are_sized}

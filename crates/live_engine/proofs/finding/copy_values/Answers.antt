@@ -1,4 +1,4 @@
-use Rattle.std.proofs.Common.{◌≡◌, ◌∙◌, ◌<◌, ℤ, pos, int_lt, nat_abs, get_or, length, length-set, ap, subst, rules, arith}
+use Rattle.std.proofs.Common.{◌∙◌, pos, int_lt, nat_abs, get_or, length-set, ap, subst, rules, arith}
 use mir.Syntax.{w32}
 use mir.Val.{SFits, to_z, of_z}
 use Rattle.std.proofs.lemmas.Int.{to_z-of_z}

@@ -1,4 +1,4 @@
-use Rattle.std.proofs.Common.{◌≤◌, length, ap, arith}
+use Rattle.std.proofs.Common.{length, ap, arith}
 use Rattle.cube_text.proofs.Fronts.{front_cut}
 use Rattle.cube_text.proofs.line_front.LineFront.turn_to.Goals as goal
 

@@ -1,12 +1,10 @@
-use Rattle.std.proofs.Common.{◌≡◌, ◌+◌, ◌<◌, ◌^◌, ◌∷◌, [], ◌++◌, set, Some, ap, sym, subst, refl, ◌∙◌, arith, ℤ, nat_abs}
+use Rattle.std.proofs.Common.{◌≡◌, ◌+◌, ◌<◌, ◌∷◌, [], ◌++◌, set, ap, sym, subst, refl, ◌∙◌, arith, ℤ, nat_abs}
 use mir.Syntax.{w32}
 use mir.Val.{to_z, of_z}
 use Rattle.std.proofs.lemmas.Int.{to_z-of_z}
 use Rattle.chrono_trail.specs.declared.item.Kind.TheVariants.{Decided}
-use Rattle.chrono_trail.specs.declared.item.Item.{Item}
 use Rattle.live_engine.proofs.Literals.{literal_fits}
 use Rattle.chrono_trail.specs.Items.{item_of}
-use Rattle.projected_decide.specs.Orders.{next_decision}
 use Rattle.projected_decide.specs.Laws.{IsLowestFree}
 use Rattle.live_engine.proofs.Moves.{next_free, next_full, decided_runs, level_bound, walked_searches}
 use Rattle.live_engine.proofs.search.Search.decide.Goals as goal

@@ -1,4 +1,4 @@
-use Rattle.std.proofs.Common.{◌≡◌, ◌≤◌, length, sym, ap, subst, ◌∙◌, arith, All}
+use Rattle.std.proofs.Common.{length, sym, ap, subst, arith, All}
 use Rattle.sat_terms.specs.Literals.{IsLiteralOf}
 use Rattle.live_engine.proofs.Dropped.{drops, dropped_all, dropped_few}
 use Rattle.live_engine.proofs.search.Search.drop_lemmas.Goals as goal

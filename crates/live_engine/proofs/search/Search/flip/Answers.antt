@@ -1,5 +1,4 @@
-use Rattle.std.proofs.Common.{◌≡◌, ◌<◌, sym, subst, ap, arith}
-use Rattle.sat_terms.specs.Literals.{IsLiteralOf}
+use Rattle.std.proofs.Common.{◌<◌, arith}
 use Rattle.live_engine.proofs.Others.{back_named, back_free, flipped}
 use Rattle.live_engine.proofs.search.Search.flip.Goals as goal
 

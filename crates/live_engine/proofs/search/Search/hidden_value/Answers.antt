@@ -1,4 +1,4 @@
-use Rattle.std.proofs.Common.{◌∙◌, ◌≡◌, ◌<◌, not, ◌&&◌, cond, Some, None, get_or, false, length, ap, arith}
+use Rattle.std.proofs.Common.{◌∙◌, not, ◌&&◌, cond, Some, None, get_or, false, ap, arith}
 use Rattle.std.proofs.lemmas.List.{get_or_read}
 use Rattle.live_engine.proofs.Told.{hidden_told}
 use Rattle.live_engine.proofs.search.Search.hidden_value.Goals as goal

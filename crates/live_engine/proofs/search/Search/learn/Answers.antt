@@ -1,5 +1,4 @@
 use Rattle.std.proofs.Common.{ap}
-use Rattle.live_engine.specs.declared.search.Search.{Search}
 use Rattle.live_engine.proofs.Lessons.{teaches}
 use Rattle.live_engine.proofs.search.Search.learn.Goals as goal
 

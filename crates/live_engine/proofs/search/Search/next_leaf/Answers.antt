@@ -1,5 +1,4 @@
-use Rattle.std.proofs.Common.{◌≡◌, ◌∙◌, ◌≤◌, [], length, vec_capacity, ap, sym, subst, subst₂, List, ℕ}
-use Rattle.live_engine.specs.declared.search.Search.{Search}
+use Rattle.std.proofs.Common.{◌∙◌, ◌≤◌, length, vec_capacity, ap, sym, subst₂}
 use Rattle.live_engine.proofs.Runs.{keeps_then, comes_then, full_keeps}
 use Rattle.live_engine.proofs.search.Search.next_leaf.Goals as goal
 

@@ -1,5 +1,5 @@
 use Rattle.std.proofs.Common.{◌∙◌}
-use Rattle.live_engine.proofs.Models.{model_within, shrunk_searches, found_ground, found_last, found_goes}
+use Rattle.live_engine.proofs.Models.{model_within, found_ground, found_last, found_goes}
 use Rattle.live_engine.proofs.search.Search.on_model.Goals as goal
 
 pub returns-then-level-self : goal.returns-then-level-self

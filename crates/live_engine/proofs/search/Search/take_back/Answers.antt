@@ -1,7 +1,6 @@
-use Rattle.std.proofs.Common.{◌≡◌, ◌-◌, pos, get_or, filter, min, refl, sym, subst, subst₂, ℕ, arith}
+use Rattle.std.proofs.Common.{◌-◌, pos, refl, sym, subst, subst₂, ℕ, arith}
 use Rattle.chrono_trail.specs.declared.item.Kind.TheVariants.{Assumed}
 use Rattle.chrono_trail.specs.declared.item.Item.{Item}
-use Rattle.chrono_trail.specs.Items.{is_upto}
 use Rattle.projected_decide.specs.Orders.{HasPassed}
 use Rattle.live_engine.specs.Values.{AreCopied}
 use Rattle.live_engine.proofs.Copies.{copied_back}

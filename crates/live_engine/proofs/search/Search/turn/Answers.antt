@@ -1,4 +1,4 @@
-use Rattle.std.proofs.Common.{◌≡◌, ◌<◌, ◌-◌, ℕ, Option, Some, IfSome, [], get_or, pos, refl, sym, subst, ap, arith}
+use Rattle.std.proofs.Common.{◌<◌, ◌-◌, ℕ, Option, IfSome, [], get_or, pos, refl, sym, subst, arith}
 use Rattle.chrono_trail.specs.Clauses.{rest_level}
 use Rattle.chrono_trail.specs.declared.item.Kind.TheVariants.{Flipped, Turned}
 use Rattle.live_engine.specs.Learning.{TurnsAt}
