@@ -3,9 +3,10 @@
 
 Everything is proved before it is compiled. Crates that do not stand on each other are proved at the same
 time, by all processors: each in a folder of its own, beside the libraries of those below it, since two calls
-of `rt` wait for each other where they share a crate's folder. Each proof has one job: more of them take two or
-three times the processor time for it, and end little sooner. Standard error gets a line for each crate as it
-is begun, and the path of the log where something fails. While one call builds, a second one waits for it.
+of `rt` wait for each other where they share a crate's folder. Each proof has one job, since more of them take
+two or three times the processor time and end little sooner; where all else waits for it, it has a job for each
+processor that is left. Standard error gets a line for each crate as it is begun, and the path of the log where
+something fails. While one call builds, a second one waits for it.
 """
 import fcntl
 import os
@@ -127,13 +128,13 @@ class Place:
         lines = [self.lines[it] for it in (*self.under[name], name)]
         (self.top / name / "crates.txt").write_text("\n".join(lines) + "\n", encoding="utf-8")
 
-    def prove(self, name):
-        """Proves a crate, over those below it, and leaves its library; the program is compiled and run once.
-        Answers whether it is proved."""
+    def prove(self, name, jobs):
+        """Proves a crate by so many jobs, over those below it, and leaves its library; the program is compiled
+        and run once. Answers whether it is proved."""
         self.lay_out(name)
-        ask = ["run", "--jobs", "1", "--", "enumerate"] if name == CLI else ["lib", "--jobs", "1"]
+        command = ["run", "--jobs", str(jobs), "--", "enumerate"] if name == CLI else ["lib", "--jobs", str(jobs)]
         run = subprocess.run(
-            ["rt", *ask], cwd=self.crate(name), input="p cnf 0 0\n",
+            ["rt", *command], cwd=self.crate(name), input="p cnf 0 0\n",
             stdout=subprocess.PIPE, stderr=subprocess.STDOUT, text=True, check=False
         )
         self.log.write(f"== {name}\n{run.stdout}")
@@ -144,18 +145,20 @@ class Place:
 def prove_all(place, names, below):
     """Proves the crates side by side, each once those below it are, and first those on which the heaviest
     chains stand. Says which is begun and how many are left. Answers whether all are proved."""
-    weights = weights_of_chains(names, below)
+    weights, free = weights_of_chains(names, below), processors()
     waiting, running, proved = sorted(names, key=lambda name: -weights[name]), {}, set()
-    free = processors()
     with ThreadPoolExecutor(free) as pool:
         while len(proved) < len(names):
             ready = [it for it in waiting if proved.issuperset(place.under[it])]
-            for name in ready[:free - len(running)]:
+            for name in ready[:free]:
                 waiting.remove(name)
+                jobs = free if all(name in place.under[it] for it in waiting) else 1
                 say(f"proving {name}; {len(names) - len(proved)} of {len(names)} crates are left")
-                running[pool.submit(place.prove, name)] = name
+                running[pool.submit(place.prove, name, jobs)] = name, jobs
+                free -= jobs
             for done in wait(running, return_when=FIRST_COMPLETED).done:
-                name = running.pop(done)
+                name, jobs = running.pop(done)
+                free += jobs
                 if not done.result():
                     say(f"{name} is not proved; waiting for what else was begun")
                     return False
