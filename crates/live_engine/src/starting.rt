@@ -1,8 +1,8 @@
 //! Starts: the search of a subject, and a job of it from a prefix.
-ghost use Rattle.std.specs.Prelude.{◌≡◌, ℕ, ◌+◌, ◌<◌, ◌≤◌, ◌^◌, [], true, false, List, ℤ, IfOk, length, slice_index_or};
+ghost use Rattle.std.specs.Prelude.{◌≡◌, ◌<◌, ◌^◌, [], true, false, List, ℤ, IfOk, length};
 ghost use Rattle.std.specs.List.{All};
 ghost use Rattle.sat_terms.specs.Literals.{IsLiteralOf};
-ghost use Rattle.sat_terms.specs.Cubes.{IsCube, is_among, rises_above};
+ghost use Rattle.sat_terms.specs.Cubes.{IsCube, rises_above};
 ghost use Rattle.sat_terms.specs.Subjects.{IsSubject};
 ghost use Rattle.search_job.specs.Reasons.{assume_all};
 ghost use Rattle.chrono_trail.specs.Trails.{IsTrail};
@@ -16,7 +16,7 @@ use chrono_trail::{Kind, Trail};
 use clause_arena::Arena;
 use conflict_analysis::Analyser;
 use implicant_shrink::Shrinker;
-use projected_decide::Order;
+use projected_decide::{Order, marks_of};
 use propagation::Propagator;
 use sat_terms::{Cube, Subject};
 use std::alloc::{AllocError, Global};
@@ -53,7 +53,7 @@ impl Search {
             most_lemmas,
             shrinker,
             shown: shown.to_vec(alloc)?,
-            is_shown: table_of(alloc, variables, shown)?,
+            is_shown: marks_of(alloc, variables, shown)?,
             prefix: Cube::from_vec(Vec::new(alloc)),
             base: 0,
             counts: vec![in alloc; 0u64; variables as usize + 1]?,
@@ -82,20 +82,6 @@ impl Search {
         self.base = 0;
         self.leaves = 0;
     }
-}
-
-/// Whether each of the variables up to `variables` is a shown one, by its number.
-fn table_of(alloc: Global, variables: u32, shown: &[u32]) -> Result<Vec<bool>, AllocError>
-    requires { All (λ v. v ≤ variables) shown.now }
-    ensures places { IfOk result (λ table. length table.items ≡ variables + 1) }
-    ensures tells { IfOk result (λ table. (v : ℕ) → v ≤ variables →
-        slice_index_or table.items v false ≡ is_among shown.now v) }
-{
-    let mut table = vec![in alloc; false; variables as usize + 1]?;
-    for variable in shown {
-        table[*variable as usize] = true;
-    }
-    Ok(table)
 }
 
 /// Puts the literals of a prefix on an empty trail.

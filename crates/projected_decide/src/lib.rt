@@ -12,6 +12,7 @@ pub mod laws;
 mod making;
 mod order;
 
+pub use making::marks_of;
 pub use order::Order;
 
 #[cfg(test)]

@@ -25,8 +25,8 @@ pub(crate) fn in_order(alloc: Global, variables: u32, shown: &[u32]) -> Result<V
     Ok(order)
 }
 
-/// Whether each of the variables up to `variables` is a shown one, by its number.
-fn marks_of(alloc: Global, variables: u32, shown: &[u32]) -> Result<Vec<bool>, AllocError>
+/// Whether each of the variables up to `variables` is a shown one, by its number. Linear in both.
+pub fn marks_of(alloc: Global, variables: u32, shown: &[u32]) -> Result<Vec<bool>, AllocError>
     requires { All (λ v. v ≤ variables) shown.now }
     ensures length { IfOk result (λ marks. length marks.items ≡ variables + 1) }
     ensures marks { IfOk result (λ marks. (v : ℕ) → v ≤ variables →
