@@ -3,10 +3,10 @@
 
 Everything is proved before it is compiled. Crates that do not stand on each other are proved at the same
 time, by all processors: each in a folder of its own, beside the libraries of those below it, since two calls
-of `rt` wait for each other where they share a crate's folder. Each proof has one job, since more of them take
-two or three times the processor time and end little sooner; where all else waits for it, it has a job for each
-processor that is left. Standard error gets a line for each crate as it is begun, and the path of the log where
-something fails. While one call builds, a second one waits for it.
+of `rt` wait for each other where they share a crate's folder. Each proof has one job, which leaves the other
+processors to other proofs; where all else waits for it, it has a job for each processor that is left. Standard
+error gets a line for each crate as it is begun, and the path of the log where something fails. While one call
+builds, a second one waits for it.
 """
 import fcntl
 import os
