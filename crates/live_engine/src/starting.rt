@@ -38,6 +38,8 @@ impl Search {
         ensures clauses { IfOk result (λ search. length search.arena.clauses ≡ search.arena.base) }
         ensures sent { IfOk result (λ search. search.sent ≡ 0) }
     {
+        // The proof takes two minutes: of ten calls that can fail each carries what is known of all
+        // that was made before it. With five of them it takes a fifth of that.
         let variables = subject.formula.variables;
         let arena = Arena::make(alloc, &subject.formula)?;
         let propagator = Propagator::make(alloc, &arena, variables)?;
