@@ -1,8 +1,7 @@
 -- A search is made, and a job of it begins.
-use Rattle.std.proofs.Common.{Bool, false, take, ◌≡◌, ℕ, ◌+◌, ◌<◌, ◌≤◌, ◌^◌, List, [], length, map, refl, sym, ap, subst, ◌∙◌, arith, All, Vec, Global, ℤ}
+use Rattle.std.proofs.Common.{Bool, false, ◌≡◌, ℕ, ◌+◌, ◌<◌, ◌≤◌, ◌^◌, List, [], length, refl, sym, ap, subst, ◌∙◌, arith, All, Vec, Global, ℤ}
 use Rattle.std.proofs.lemmas.List.{take_all, length-map}
 use Rattle.std.proofs.lemmas.List.Elements.{All-nil}
-use Rattle.sat_terms.specs.Literals.{IsLiteralOf}
 use Rattle.sat_terms.specs.Cubes.{IsCube, is_among}
 use Rattle.sat_terms.specs.Subjects.{IsSubject}
 use Rattle.sat_terms.specs.declared.subject.Subject.{Subject}
@@ -12,32 +11,30 @@ use Rattle.search_region.proofs.Imply.{clause_follows}
 use Rattle.search_job.specs.Reasons.{assume_all}
 use Rattle.search_job.specs.Working.{Working}
 use Rattle.search_job.proofs.Start.{begin_works}
-use Rattle.clause_arena.specs.Clauses.{Clauses}
 use Rattle.clause_arena.specs.Once.{once}
 use Rattle.chrono_trail.specs.Trails.{TrailView, IsTrail}
 use Rattle.chrono_trail.specs.Pictures.{picture_of}
 use Rattle.chrono_trail.specs.Reasons.{AreReasoned}
-use Rattle.projected_decide.specs.Orders.{OrderView, order_of}
-use Rattle.implicant_shrink.specs.Shrinking.{ShrinkerView, IsFor}
-use Rattle.propagation.specs.Settled.{PropagatorView, Watches}
+use Rattle.projected_decide.specs.Orders.{OrderView}
 use Rattle.propagation.proofs.Settled.{settled_unseen, settled_clear}
 use Rattle.live_engine.specs.declared.search.Search.{Search}
 use Rattle.live_engine.specs.Searching.{search_formula, count_of, IsGround, TellsShown}
-use Rattle.live_engine.specs.Starts.{IsOf, Begins}
+use Rattle.live_engine.specs.declared.starting.Machines.{Machines}
+use Rattle.live_engine.specs.Starts.{AreOf, IsOf, Begins}
 use Rattle.live_engine.proofs.Grounds.{ground_with, ground_valued}
 use Rattle.live_engine.proofs.Prefixes.{assumed_depth}
 
 -- the search that is made
-abbrev pub made : ℕ → Clauses → PropagatorView → TrailView → OrderView → ℕ → ℕ → ShrinkerView → Vec ℕ Global → Vec Bool Global → List ℤ → Vec ℕ Global → Vec Bool Global → Vec (List ℤ) Global → Search
-made variables arena propagator trail order analyser most shrinker shown is_shown prefix counts values found = record {
+abbrev pub made : ℕ → Machines → ℕ → Vec ℕ Global → Vec Bool Global → List ℤ → Vec ℕ Global → Vec Bool Global → Vec (List ℤ) Global → Search
+made variables m most shown is_shown prefix counts values found = record {
   variables = variables;
-  arena = arena;
-  propagator = propagator;
-  trail = trail;
-  order = order;
-  analyser = analyser;
+  arena = m.arena;
+  propagator = m.propagator;
+  trail = m.trail;
+  order = m.order;
+  analyser = m.analyser;
   most_lemmas = most;
-  shrinker = shrinker;
+  shrinker = m.shrinker;
   shown = shown;
   is_shown = is_shown;
   prefix = prefix;
@@ -52,22 +49,8 @@ made variables arena propagator trail order analyser most shrinker shown is_show
 }
 
 -- what the parts of it are
-pub record ArePartsOf (s : Subject) (arena : Clauses) (propagator : PropagatorView) (trail : TrailView) (order : OrderView) (analyser : ℕ) (shrinker : ShrinkerView) (shown : Vec ℕ Global) (is_shown : Vec Bool Global) (prefix : List ℤ) (counts : Vec ℕ Global) (values : Vec Bool Global) (found : Vec (List ℤ) Global) : Type 0 where
-  pub clauses : arena.clauses ≡ map once s.formula.clauses
-  pub base : arena.base ≡ length s.formula.clauses
-  pub named : All (All (IsLiteralOf s.formula.variables)) arena.clauses
-  pub own : propagator.variables ≡ s.formula.variables
-  pub known : propagator.known ≡ length arena.clauses
-  pub places : propagator.places ≡ length arena.clauses
-  pub watches : Watches arena.clauses propagator
-  pub variables : trail.variables ≡ s.formula.variables
-  pub items : trail.items ≡ []
-  pub level : trail.level ≡ 0
-  pub seen : trail.seen ≡ 0
-  pub ordered : order.variables ≡ s.formula.variables
-  pub is_order : order.order ≡ order_of s.formula.variables s.shown
-  pub is_analyser : analyser ≡ s.formula.variables
-  pub is_shrinker : IsFor (take arena.base arena.clauses) shrinker
+pub record ArePartsOf (s : Subject) (m : Machines) (shown : Vec ℕ Global) (is_shown : Vec Bool Global) (prefix : List ℤ) (counts : Vec ℕ Global) (values : Vec Bool Global) (found : Vec (List ℤ) Global) : Type 0 where
+  pub machines : AreOf s m
   pub shows : shown.items ≡ s.shown
   pub table : TellsShown s.formula.variables s.shown is_shown.items
   pub is_prefix : prefix ≡ []
@@ -75,57 +58,56 @@ pub record ArePartsOf (s : Subject) (arena : Clauses) (propagator : PropagatorVi
   pub valued : length values.items ≡ s.formula.variables + 1
   pub is_found : found.items ≡ []
 
-pub made_ground : (s : Subject) (arena : Clauses) (propagator : PropagatorView) (trail : TrailView) (order : OrderView) (analyser : ℕ) (most : ℕ) (shrinker : ShrinkerView) (shown : Vec ℕ Global) (is_shown : Vec Bool Global) (prefix : List ℤ) (counts : Vec ℕ Global) (values : Vec Bool Global) (found : Vec (List ℤ) Global) →
-    IsSubject s.formula.variables s.formula.clauses s.shown s.under → ArePartsOf s arena propagator trail order analyser shrinker shown is_shown prefix counts values found →
-    IsGround (made s.formula.variables arena propagator trail order analyser most shrinker shown is_shown prefix counts values found)
-made_ground s arena propagator trail order analyser most shrinker shown is_shown prefix counts values found subject parts =
-    let few = subject.formula.variables in
-    let variables = parts.variables in
-    let base = parts.base in
-    let places = parts.places in
-    let count = ap length parts.clauses ∙ length-map s.formula.clauses once in
-    record {
-      small = (let low : s.formula.variables < 2 ^ 31 = omega arith in low);
-      trail = parts.variables;
-      stands = record {
-        small = (let low : trail.variables < 2 ^ 31 = omega arith in low);
-        within = rw parts.items refl;
-        distinct = rw parts.items refl;
-        stands = rw parts.items refl;
-        current = rw (parts.items, parts.level) refl;
-      };
-      propagator = parts.own;
-      shown = rw parts.shows subject.shown;
-      table = rw parts.shows parts.table;
-      ordered = parts.ordered;
-      order = rw parts.shows parts.is_order;
-      shrinker = parts.is_shrinker;
-      analyser = parts.is_analyser;
-      based = omega arith;
-      named = parts.named;
-      follow = subst (λ f. All (Follows f) arena.clauses) (sym (take_all arena.base arena.clauses (omega arith))) (λ k d inside. clause_follows arena.clauses k d inside);
-      known = parts.known;
-      places = omega arith;
-      settled = settled_unseen arena.clauses propagator trail parts.watches parts.seen;
-      reasoned = rw parts.items tt;
-      counted = parts.counted;
-      valued = parts.valued;
-      capped = (let low : 0 ≤ 2 ^ 62 = omega arith in low);
-      prefix = rw parts.is_prefix (record { rising = refl; over = refl });
-      cubes = rw parts.is_found (All-nil (IsCube shown.items));
-    }
+module _ (s : Subject) (m : Machines) (most : ℕ) (shown : Vec ℕ Global) (is_shown : Vec Bool Global) (prefix : List ℤ) (counts : Vec ℕ Global) (values : Vec Bool Global) (found : Vec (List ℤ) Global) where
+  pub made_ground : IsSubject s.formula.variables s.formula.clauses s.shown s.under → ArePartsOf s m shown is_shown prefix counts values found →
+      IsGround (made s.formula.variables m most shown is_shown prefix counts values found)
+  made_ground subject parts =
+      let few = subject.formula.variables in
+      let on = parts.machines in
+      let variables = on.variables in
+      let base = on.base in
+      let places = on.places in
+      let count = ap length on.clauses ∙ length-map s.formula.clauses once in
+      record {
+        small = (let low : s.formula.variables < 2 ^ 31 = omega arith in low);
+        trail = on.variables;
+        stands = record {
+          small = (let low : m.trail.variables < 2 ^ 31 = omega arith in low);
+          within = rw on.items refl;
+          distinct = rw on.items refl;
+          stands = rw on.items refl;
+          current = rw (on.items, on.level) refl;
+        };
+        propagator = on.own;
+        shown = rw parts.shows subject.shown;
+        table = rw parts.shows parts.table;
+        ordered = on.ordered;
+        order = rw parts.shows on.order;
+        shrinker = on.shrinker;
+        analyser = on.analyser;
+        based = omega arith;
+        named = on.named;
+        follow = subst (λ f. All (Follows f) m.arena.clauses) (sym (take_all m.arena.base m.arena.clauses (omega arith))) (λ k d inside. clause_follows m.arena.clauses k d inside);
+        known = on.known;
+        places = omega arith;
+        settled = settled_unseen m.arena.clauses m.propagator m.trail on.watches on.seen;
+        reasoned = rw on.items tt;
+        counted = parts.counted;
+        valued = parts.valued;
+        capped = (let low : 0 ≤ 2 ^ 62 = omega arith in low);
+        prefix = rw parts.is_prefix (record { rising = refl; over = refl });
+        cubes = rw parts.is_found (All-nil (IsCube shown.items));
+      }
 
-pub made_of : (s : Subject) (arena : Clauses) (propagator : PropagatorView) (trail : TrailView) (order : OrderView) (analyser : ℕ) (most : ℕ) (shrinker : ShrinkerView) (shown : Vec ℕ Global) (is_shown : Vec Bool Global) (prefix : List ℤ) (counts : Vec ℕ Global) (values : Vec Bool Global) (found : Vec (List ℤ) Global) →
-    ArePartsOf s arena propagator trail order analyser shrinker shown is_shown prefix counts values found →
-    IsOf s (made s.formula.variables arena propagator trail order analyser most shrinker shown is_shown prefix counts values found)
-made_of s arena propagator trail order analyser most shrinker shown is_shown prefix counts values found parts =
-    let base = parts.base in
-    let count = ap length parts.clauses ∙ length-map s.formula.clauses once in
-    record {
-      variables = refl;
-      formula = take_all arena.base arena.clauses (omega arith) ∙ parts.clauses;
-      shown = parts.shows;
-    }
+  pub made_of : ArePartsOf s m shown is_shown prefix counts values found → IsOf s (made s.formula.variables m most shown is_shown prefix counts values found)
+  made_of parts =
+      let base = parts.machines.base in
+      let count = ap length parts.machines.clauses ∙ length-map s.formula.clauses once in
+      record {
+        variables = refl;
+        formula = take_all m.arena.base m.arena.clauses (omega arith) ∙ parts.machines.clauses;
+        shown = parts.shows;
+      }
 
 pub begun : (old : Search) (trail : TrailView) (order : OrderView) (q : List ℤ) → IsGround old → IsCube old.shown.items q → old.found.items ≡ [] →
     ((f : List (List ℤ)) → picture_of f trail.items ≡ assume_all q []) → ((f : List (List ℤ)) → AreReasoned f trail.items) →

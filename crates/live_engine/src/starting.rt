@@ -9,7 +9,7 @@ ghost use Rattle.chrono_trail.specs.Trails.{IsTrail};
 ghost use Rattle.chrono_trail.specs.Pictures.{picture_of};
 ghost use Rattle.chrono_trail.specs.Reasons.{AreReasoned};
 ghost use Rattle.live_engine.specs.Searching.{IsGround};
-ghost use Rattle.live_engine.specs.Starts.{IsOf, Begins};
+ghost use Rattle.live_engine.specs.Starts.{AreOf, IsOf, Begins};
 
 use crate::search::Search;
 use chrono_trail::{Kind, Trail};
@@ -20,6 +20,42 @@ use projected_decide::{Order, marks_of};
 use propagation::Propagator;
 use sat_terms::{Cube, Subject};
 use std::alloc::{AllocError, Global};
+
+/// What a search works with: the clauses, and what looks at them.
+#[derive(Drop)]
+struct Machines {
+    /// The clauses of the formula, and no lemma.
+    arena: Arena,
+    propagator: Propagator,
+    /// Nothing is assigned.
+    trail: Trail,
+    order: Order,
+    analyser: Analyser,
+    shrinker: Shrinker,
+}
+
+impl Machines {
+    /// Those of a subject. They are apart from the search, since the proof of a call that can fail
+    /// carries what is known of all that was made before it.
+    fn make(alloc: Global, subject: &Subject) -> Result<Machines, AllocError>
+        requires { IsSubject subject.now.formula.variables subject.now.formula.clauses
+            subject.now.shown subject.now.under }
+        ensures { IfOk result (AreOf subject.now) }
+    {
+        let variables = subject.formula.variables;
+        let arena = Arena::make(alloc, &subject.formula)?;
+        let propagator = Propagator::make(alloc, &arena, variables)?;
+        let shrinker = Shrinker::make(alloc, &arena, variables)?;
+        Ok(Machines {
+            arena,
+            propagator,
+            trail: Trail::make(alloc, variables)?,
+            order: Order::make(alloc, variables, subject.shown.as_slice())?,
+            analyser: Analyser::make(alloc, variables)?,
+            shrinker,
+        })
+    }
+}
 
 impl Search {
     /// A search of the subject, without a job, which keeps so many lemmas at most.
@@ -38,22 +74,18 @@ impl Search {
         ensures clauses { IfOk result (λ search. length search.arena.clauses ≡ search.arena.base) }
         ensures sent { IfOk result (λ search. search.sent ≡ 0) }
     {
-        // The proof takes two minutes: of ten calls that can fail each carries what is known of all
-        // that was made before it. With five of them it takes a fifth of that.
         let variables = subject.formula.variables;
-        let arena = Arena::make(alloc, &subject.formula)?;
-        let propagator = Propagator::make(alloc, &arena, variables)?;
-        let shrinker = Shrinker::make(alloc, &arena, variables)?;
+        let machines = Machines::make(alloc, subject)?;
         let shown = subject.shown.as_slice();
         Ok(Search {
             variables,
-            arena,
-            propagator,
-            trail: Trail::make(alloc, variables)?,
-            order: Order::make(alloc, variables, shown)?,
-            analyser: Analyser::make(alloc, variables)?,
+            arena: machines.arena,
+            propagator: machines.propagator,
+            trail: machines.trail,
+            order: machines.order,
+            analyser: machines.analyser,
             most_lemmas,
-            shrinker,
+            shrinker: machines.shrinker,
             shown: shown.to_vec(alloc)?,
             is_shown: marks_of(alloc, variables, shown)?,
             prefix: Cube::from_vec(Vec::new(alloc)),
